@@ -39,7 +39,7 @@ pub command_reported : (command : FileCommand) (ended : Status) (bytes new : Lis
     → Performs command ended s → IsReportOf command bytes new
 command_reported Replay ended bytes new s over done = report_written IsTextOf IsReplay bytes new s (λ known text is. is) over done.1
 command_reported (Bound chains) ended bytes new s over done = report_written IsTextOf (IsBound chains) bytes new s (λ known text is. is) over done.1
-command_reported (Check any_size) ended bytes new s over done = report_written (IsTextWithin (most_bytes any_size)) IsCheck bytes new s (λ known text is. is.1) over done.1
+command_reported (Check any_size workers) ended bytes new s over done = report_written (IsTextWithin (most_bytes any_size)) IsCheck bytes new s (λ known text is. is.1) over done.1
 command_reported (Prove search) ended bytes new s over done = (ended, report_written IsTextOf (IsProof search ended) bytes new s (λ known text is. is) over done)
 command_reported Rewrite ended bytes new s over done = report_written IsTextOf IsRewritten bytes new s (λ known text is. is) over done.1
 

@@ -127,10 +127,10 @@ check_is_free = refl
 check_is_done : (j : Job) → WordsAsk check_words j → (seen : JobSeen) (ended : Status) (bytes lines : List ℕ) → seen.input.given ≡ Some bytes
     → seen.out.held ≡ Some [] → seen.out.holds ≡ Some lines → IsDone j seen ended → IsCheck bytes lines
 unfolding walk_fault defaults_fault flags_fault walked bundle_met
-check_is_done (OneFile file (command.Check any_size) stop) (free, (name, is, named)) seen ended bytes lines given held holds ((source, inl (dash, from), (done, few)), kept) =
-    command_reported (command.Check any_size) ended bytes lines (call_of source seen.out)
+check_is_done (OneFile file (command.Check any_size workers) stop) (free, (name, is, named)) seen ended bytes lines given held holds ((source, inl (dash, from), (done, few)), kept) =
+    command_reported (command.Check any_size workers) ended bytes lines (call_of source seen.out)
     (record { given = ap (λ (s : SourceSeen). s.given) from.is ∙ given; held = held; holds = holds }) done
-check_is_done (OneFile file (command.Check any_size) stop) (free, (name, is, named)) seen ended bytes lines given held holds ((source, inr (other, from), (done, few)), kept) =
+check_is_done (OneFile file (command.Check any_size workers) stop) (free, (name, is, named)) seen ended bytes lines given held holds ((source, inr (other, from), (done, few)), kept) =
     absurd (other (sym (one_text _ _ is)))
 check_is_done (OneFile file command.Replay stop) (free, (name, is, named)) seen ended bytes lines given held holds done = absurd (other_letter 99 114 _ _ refl name)
 check_is_done (OneFile file command.Rewrite stop) (free, (name, is, named)) seen ended bytes lines given held holds done = absurd (other_letter 99 114 _ _ refl name)
@@ -226,7 +226,7 @@ job_is_linked seen errors status one (Solve names settings quiet progress) (free
 job_is_linked seen errors status one (OneFile file command.Replay stop) (free, (name, is, named)) ends = absurd (other_letter 115 114 _ _ refl name)
 job_is_linked seen errors status one (OneFile file command.Rewrite stop) (free, (name, is, named)) ends = absurd (other_letter 115 114 _ _ refl name)
 job_is_linked seen errors status one (OneFile file (command.Bound chains) stop) (free, (name, is, named)) ends = absurd (other_letter 115 98 _ _ refl name.0)
-job_is_linked seen errors status one (OneFile file (command.Check any_size) stop) (free, (name, is, named)) ends = absurd (other_letter 115 99 _ _ refl name.0)
+job_is_linked seen errors status one (OneFile file (command.Check any_size workers) stop) (free, (name, is, named)) ends = absurd (other_letter 115 99 _ _ refl name.0)
 job_is_linked seen errors status one (OneFile file (command.Prove chosen) stop) (free, (name, is, named)) ends = absurd (other_letter 115 112 _ _ refl name.0)
 job_is_linked seen errors status one (Absent names settings) (free, (name, size, files, has)) ends = absurd (other_letter 115 97 _ _ refl name)
 job_is_linked seen errors status one (Audit names settings) (free, (name, size, files, has)) ends = absurd (other_letter 115 97 _ _ refl name)
@@ -331,7 +331,7 @@ limits_ask (Solve names settings quiet progress) (free, (name, size, twice, file
 limits_ask (OneFile file command.Replay stop) (free, (name, is, named)) = absurd (other_letter 115 114 _ _ refl name)
 limits_ask (OneFile file command.Rewrite stop) (free, (name, is, named)) = absurd (other_letter 115 114 _ _ refl name)
 limits_ask (OneFile file (command.Bound chains) stop) (free, (name, is, named)) = absurd (other_letter 115 98 _ _ refl name.0)
-limits_ask (OneFile file (command.Check any_size) stop) (free, (name, is, named)) = absurd (other_letter 115 99 _ _ refl name.0)
+limits_ask (OneFile file (command.Check any_size workers) stop) (free, (name, is, named)) = absurd (other_letter 115 99 _ _ refl name.0)
 limits_ask (OneFile file (command.Prove chosen) stop) (free, (name, is, named)) = absurd (other_letter 115 112 _ _ refl name.0)
 limits_ask (Audit names settings) (free, (name, size, files, has)) = absurd (other_letter 115 97 _ _ refl name)
 limits_ask (Follow names settings) (free, (name, clear, files, has)) = absurd (other_letter 115 102 _ _ refl name)
@@ -349,7 +349,8 @@ limits_have_no_fault f (free, inr (inl is)) =
     no_fault_at (rows_in (subcommand_of crp (words_or_default limit_words))) (record { rows = refl; tiers = refl; heights = refl; workers = refl; split = refl; beam = refl; thin = refl; budget = refl; bays = refl; seconds = refl; total = refl }) f is.1.2
 limits_have_no_fault f (free, inr (inr (inl is))) = absurd (other_letter 115 97 _ _ refl is.0)
 limits_have_no_fault f (free, inr (inr (inr (inl is)))) = absurd (other_letter 115 102 _ _ refl is.0)
-limits_have_no_fault f (free, inr (inr (inr (inr is)))) = absurd (other_letter 115 97 _ _ refl is.0)
+limits_have_no_fault f (free, inr (inr (inr (inr (inl is))))) = absurd (other_letter 115 97 _ _ refl is.0)
+limits_have_no_fault f (free, inr (inr (inr (inr (inr is))))) = absurd (other_letter 115 99 _ _ refl is.0)
 
 -- they are not refused for a setting
 pub limits_refused : (u : Usage) → Refuses limit_words u → ¬ IsOfSetting u
@@ -387,7 +388,7 @@ strong_asks (OneFile file (command.Prove settings) stop) (free, ((name, ((worker
 strong_asks (OneFile file command.Replay stop) (free, (name, is, named)) = absurd (other_letter 112 114 _ _ refl name)
 strong_asks (OneFile file command.Rewrite stop) (free, (name, is, named)) = absurd (other_letter 112 114 _ _ refl name)
 strong_asks (OneFile file (command.Bound chains) stop) (free, (name, is, named)) = absurd (other_letter 112 98 _ _ refl name.0)
-strong_asks (OneFile file (command.Check any_size) stop) (free, (name, is, named)) = absurd (other_letter 112 99 _ _ refl name.0)
+strong_asks (OneFile file (command.Check any_size workers) stop) (free, (name, is, named)) = absurd (other_letter 112 99 _ _ refl name.0)
 strong_asks (Absent names settings) (free, (name, size, files, has)) = absurd (other_letter 112 97 _ _ refl name)
 strong_asks (Audit names settings) (free, (name, size, files, has)) = absurd (other_letter 112 97 _ _ refl name)
 strong_asks (Follow names settings) (free, (name, clear, files, has)) = absurd (other_letter 112 102 _ _ refl name)

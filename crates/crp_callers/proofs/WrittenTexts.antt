@@ -1,5 +1,5 @@
 -- What the commands `absent`, `audit` and `follow` say of lists of bytes.
-use Rattle.std.proofs.Common.{◌≡◌, ◌≢◌, ◌≤◌, ◌∙◌, ℕ, false, List, [], length, Some, None, Option, Result, Ok, Err, refl, ap, subst, sym}
+use Rattle.std.proofs.Common.{◌≡◌, ◌≢◌, ◌≤◌, ◌∙◌, ℕ, Bool, false, List, [], length, Some, None, Option, Result, Ok, Err, refl, ap, subst, sym}
 use Rattle.std.specs.Prelude.{MatchResult, OnOk, IsTrue, is_some}
 use Rattle.std.specs.Io.KnownBytes.{Appends}
 use Rattle.std.specs.List.{AllByRecursion}
@@ -137,7 +137,7 @@ pub record AreFollowed (s : FollowSeen) (list message report page left table : L
 -- what the texts of a report are that were written
 whole_texts : (chosen : FollowChosen) (s : FollowSeen) (list message report page left table : List ℕ) (yard : Inventory) (ship : Ship) (said : List ℕ)
     → AreFollowed s list message report page left table → said ≡ report → AreInput chosen.input list message yard ship.0 ship.1
-    → WritesTexts (Some ship) chosen.loaded yard said s.texts → IsWhole yard ship.0 ship.1 chosen.loaded report page left table
+    → WritesTexts (Some ship) chosen.loaded false yard said s.texts → IsWhole yard ship.0 ship.1 chosen.loaded report page left table
 whole_texts chosen s list message report page left table yard ship said over same input (x, are, writes) =
     let paged = subst (λ (o : Option SinkSeen). WritesWhole x.page o) over.page_wanted writes.0 in
     let listed = subst (λ (o : Option SinkSeen). WritesWhole x.list o) over.list_wanted writes.1 in
@@ -152,16 +152,16 @@ whole_texts chosen s list message report page left table yard ship said over sam
 
 whole_for : (chosen : FollowChosen) (s : FollowSeen) (list message report page left table : List ℕ) (yard : Inventory) (ship : Option Ship) (said : List ℕ)
     → (over : AreFollowed s list message report page left table) → said ≡ report → IsFollowInput chosen.input s.yard (Some over.messages) yard ship
-    → WritesTexts ship chosen.loaded yard said s.texts → IsFollowedWhole chosen.input chosen.loaded list message report page left table
+    → WritesTexts ship chosen.loaded false yard said s.texts → IsFollowedWhole chosen.input chosen.loaded list message report page left table
 whole_for chosen s list message report page left table yard None said over same input writes = absurd input
 whole_for chosen s list message report page left table yard (Some ship) said over same input writes =
     let says = input_is chosen.input s.yard over.messages list message yard ship.0 ship.1 over.list_given over.message_given input in
     (yard, ship.0, ship.1, says, whole_texts chosen s list message report page left table yard ship said over same says writes)
 
-pub followed_whole : (chosen : FollowChosen) (s : FollowSeen) → chosen.partial ≡ false → (list message report page left table : List ℕ) → AreFollowed s list message report page left table
+pub followed_whole : (chosen : FollowChosen) (s : FollowSeen) → chosen.partial ≡ false → chosen.summary ≡ false → (list message report page left table : List ℕ) → AreFollowed s list message report page left table
     → Follows chosen s → IsFollowedWhole chosen.input chosen.loaded list message report page left table
-followed_whole chosen s plain list message report page left table over (yard, ship, said, given, writes) =
+followed_whole chosen s plain moves list message report page left table over (yard, ship, said, given, writes) =
     let (text, bays, is, in_it) = given.report_given in
     let same : said ≡ text = (subst (λ p. IsReportIn p text said bays) plain in_it).0 in
     whole_for chosen s list message report page left table yard ship said over (same ∙ given_is s.report.given report text over.report_given is)
-    (subst (λ (o : Option SourceSeen). IsFollowInput chosen.input s.yard o yard ship) over.asked given.input) writes
+    (subst (λ (o : Option SourceSeen). IsFollowInput chosen.input s.yard o yard ship) over.asked given.input) (subst (λ (b : Bool). WritesTexts ship chosen.loaded b yard said s.texts) moves writes)

@@ -14,6 +14,7 @@ use Rattle.crp_follow.specs.Behind.{IsListBehind}
 use Rattle.crp_follow.specs.Followed.{BayFollowed, IsFollowed}
 use Rattle.crp_loading.specs.Loading.{load_text}
 use Rattle.crp_page.specs.Page.{page_text}
+use Rattle.crp_page.specs.declared.ordered.OrderNumbers.TheVariants.{Counted}
 use Rattle.crp_report.specs.Chosen.{InputChosen}
 use Rattle.crp_report.specs.Runs.{AreOrders, numbers_of}
 use Rattle.crp_audit.specs.Headline.{Handed, handed}
@@ -31,7 +32,7 @@ use Rattle.crp_commands.specs.Prove.{IsSomeProof}
 abbrev pub IsReportOf : FileCommand → List ℕ → List ℕ → Type 0
 IsReportOf Replay bytes text = IsReplay bytes text
 IsReportOf (Bound chains) bytes text = IsBound chains bytes text
-IsReportOf (Check any_size) bytes text = IsCheck bytes text
+IsReportOf (Check any_size workers) bytes text = IsCheck bytes text
 IsReportOf (Prove search) bytes text = IsSomeProof search bytes text
 IsReportOf Rewrite bytes text = IsRewritten bytes text
 
@@ -66,7 +67,7 @@ pub record IsWhole (yard : Inventory) (orders : LoadOrders) (sequence : List (Li
   pub numbers : Numbers
   pub bays : List BayFollowed
   pub follows : IsFollowed yard report numbers bays
-  pub page_is : page ≡ page_text yard (numbers_of yard orders sequence) bays
+  pub page_is : page ≡ page_text yard (Counted (numbers_of yard orders sequence)) bays
   pub left_is : IsListBehind yard (made_for (Some (orders, sequence)) loaded bays) left
   pub table_is : table ≡ load_text sequence orders.list bays
 

@@ -89,13 +89,15 @@ pub fn rewritten(alloc: Global, bytes: &[u8], out: &mut Received) -> Result<Stat
     rewrite(alloc, &mut source, out)
 }
 
-/// A check of a file that is refused writes the lines of the certificates before the refused one; and of a file that holds some it notes
-/// nothing.
-pub fn checked(
+/// A check of a file that is refused writes the lines of the certificates before the refused one, by however many workers; and of a file
+/// that holds some it notes nothing.
+pub fn checked<T: Threads + Sync>(
+    threads: &T,
     alloc: Global,
     certificates: &[u8],
     lines: &mut Received,
     notes: &mut Received,
+    workers: u32,
 ) -> Result<Status, ToolFault>
     requires no_lines { lines.old.bytes.items ≡ [] }
     requires no_notes { notes.old.bytes.items ≡ [] }
@@ -104,7 +106,7 @@ pub fn checked(
     ensures noted { OnOk result (lines.new.bytes.items ≢ [] → notes.new.bytes.items ≡ []) }
 {
     let mut source = certificates;
-    check(alloc, &mut source, lines, notes, false)
+    check(threads, alloc, &mut source, lines, notes, false, workers)
 }
 
 /// The list of a yard list and a message has a record for each ordered container that is not in the yard, and no other, whatever the order
@@ -196,6 +198,7 @@ pub fn followed(
         list: true,
         loaded,
         partial: false,
+        summary: false,
     };
     follow(
         alloc,

@@ -1,12 +1,13 @@
 -- The symbols of trees: bytes begin with those of one tree at most, and a branch is read tree by tree.
-use Rattle.std.proofs.Common.{◌≡◌, ℕ, zero, suc, ◌<◌, ◌||◌, List, [], ◌∷◌, ◌++◌, length, map, take, get_or, None, refl, sym, ap, ◌∙◌, subst, arith, append_assoc, append-nil}
+use Rattle.std.proofs.Common.{◌≡◌, ℕ, zero, suc, ◌<◌, ◌||◌, false, List, [], ◌∷◌, ◌++◌, length, map, take, get_or, None, refl, sym, ap, ◌∙◌, subst, arith, append_assoc, append-nil}
 use Rattle.std.specs.Prelude.{codes}
 use Rattle.std.specs.List.{flat_map, list_any}
 use Rattle.std.specs.Fmt.{decimal}
 use Rattle.std.proofs.lemmas.Grind.{flat_map-append}
 use Rattle.std.proofs.lemmas.List.Folds.{list_any-append}
 use Rattle.crp_row.specs.Symbol.{Symbol}
-use Rattle.crp_row.specs.Rows.{kind_of}
+use Rattle.crp_row.specs.Symbol as symbol
+use Rattle.crp_row.specs.Rows.{kind_of, symbol_of}
 use Rattle.crp_row.specs.Reasons.{reasons_text}
 use Rattle.crp_tree.specs.Mark.{R}
 use Rattle.std.proofs.lemmas.Option.{none-some}
@@ -221,6 +222,15 @@ mutual
   some_by_kinds no_trees = refl
   some_by_kinds (one_and tree trees) =
       any_joined (symbols tree) (symbols_of_each' trees) ∙ ap (λ x. x || list_any is_reasons (map kind_of (symbols_of_each' trees))) (reasons_by_kinds tree) ∙ ap (λ x. has_reasons tree || x) (some_by_kinds trees)
+
+-- symbols without reasons are spelled by what they are
+pub letters_spelled : (ss : List Symbol) → list_any is_reasons (map kind_of ss) ≡ false → flat_map (λ kind. symbol_text (symbol_of kind [])) (map kind_of ss) ≡ flat_map symbol_text ss
+letters_spelled [] e = refl
+letters_spelled (symbol.CutB ∷ ss) e = ap (λ l. 66 ∷ l) (letters_spelled ss e)
+letters_spelled (symbol.CutL ∷ ss) e = ap (λ l. 76 ∷ l) (letters_spelled ss e)
+letters_spelled (symbol.CutR bound text ∷ ss) e = absurd cc
+letters_spelled (symbol.Branch n ∷ ss) e = ap (λ l. 88 ∷ l) (letters_spelled ss e)
+letters_spelled (symbol.Given ∷ ss) e = ap (λ l. 71 ∷ l) (letters_spelled ss e)
 
 -- the symbols of one tree more
 pub each_push : (trees : List Tree) (tree : Tree) → symbols_of_each' (row trees) ++ symbols tree ≡ symbols_of_each' (row (trees ++ tree ∷ []))

@@ -1,5 +1,5 @@
 //! Writing a certificate.
-ghost use Rattle.std.specs.Prelude.{◌≡◌, ◌≤◌, ◌+◌, ℕ, ◌++◌, ◌∷◌, [], length, map, take, is_ok, if◌then◌else◌, IfOk, OnOk, OnErr, IsErrOf, IsTrue, ◌↔◌};
+ghost use Rattle.std.specs.Prelude.{◌≡◌, ◌≤◌, ◌+◌, ℕ, ◌++◌, ◌∷◌, [], false, length, map, take, is_ok, if◌then◌else◌, IfOk, OnOk, OnErr, IsErrOf, IsTrue, ◌↔◌};
 ghost use Rattle.std.specs.Option.{option_copied};
 ghost use Rattle.std.specs.List.{flat_map, list_any};
 ghost use Rattle.std.specs.Io.KnownBytes.{Appends};
@@ -275,11 +275,40 @@ fn push_symbol(text: &mut Vec<u8>, kind: Kind, reasons: &[u8]) -> Result<(), All
     Ok(())
 }
 
+/// The letter of a symbol that has no reasons.
+fn letter_of(kind: Kind) -> u8
+    ensures { is_reasons kind ≡ false → symbol_text (symbol_of kind []) ≡ result ∷ [] }
+{
+    match kind {
+        Kind::CutB => b'B',
+        Kind::CutL => b'L',
+        Kind::CutR(_) => b'[',
+        Kind::Branch(_) => b'X',
+        Kind::Given => b'G',
+    }
+}
+
+/// Adds symbols none of which has reasons.
+fn push_letters(text: &mut Vec<u8>, kinds: &[Kind]) -> Result<(), AllocError>
+    requires { list_any is_reasons kinds.now ≡ false }
+    ensures { OnOk result (text.new.items ≡ text.old.items ++ flat_map (λ kind. symbol_text (symbol_of kind [])) kinds.now) }
+{
+    text.reserve(kinds.len())?;
+    for kind in kinds {
+        text.push_reserved(letter_of(*kind));
+    }
+    Ok(())
+}
+
 /// Adds the symbols of a tree.
 fn push_tree(text: &mut Vec<u8>, tree: &Tree) -> Result<(), AllocError>
     ensures { OnOk result (text.new.items ≡ text.old.items ++ symbols_of tree.now) }
 {
     let mut rest = tree.symbols();
+    let kinds = rest.kinds();
+    if !has_one(kinds) {
+        return push_letters(text, kinds);
+    }
     while let Some((kind, reasons)) = rest.next() {
         push_symbol(text, kind, reasons)?;
     }

@@ -1,5 +1,5 @@
 -- A file of certificates that comes in pieces.
-use Rattle.std.proofs.Common.{◌≡◌, ◌≢◌, ℕ, ◌+◌, ◌⊎◌, inl, inr, List, [], ◌∷◌, ◌++◌, length, take, drop, None, refl, sym, ap, ◌∙◌, subst, arith, append_assoc}
+use Rattle.std.proofs.Common.{◌≡◌, ◌≢◌, ◌↔◌, Bool, true, false, ℕ, ◌+◌, ◌⊎◌, inl, inr, List, [], ◌∷◌, ◌++◌, length, take, drop, None, refl, sym, ap, ◌∙◌, subst, arith, append_assoc}
 use Rattle.std.specs.List.{AllByRecursion}
 use Rattle.std.proofs.lemmas.List.{append-nil, take-append-drop}
 use Rattle.std.proofs.lemmas.Grind.{flat_map-append}
@@ -12,7 +12,8 @@ use Rattle.crp_checker.specs.Shown.{TextShowsFor}
 use Rattle.crp_checker.specs.Refusals.{IsRefusal}
 use Rattle.crp_checker.specs.Files.{IsEnded, HasNoEndLine, joined_lines, BeginsWithTexts, ShowEach, FileShows, IsFileRefusal}
 use Rattle.crp_checker.specs.Watches.{IsUnended}
-use Rattle.crp_checker.specs.FedFiles.{IsEndedFront}
+use Rattle.crp_checker.specs.FedFiles.{IsEndedFront, HasReadFile}
+use Rattle.crp_checker.specs.declared.file_checker.FileChecker.{FileChecker}
 use Rattle.crp_checker.specs.declared.refused.Refused.TheVariants.{Memory}
 use Rattle.crp_checker.proofs.Cuts.{stands_first, texts_more, shown_more, as_many}
 
@@ -39,6 +40,41 @@ front_more file verdicts text bay verdict front ended shows = record {
   is = front.is ∙ ap (λ l. joined_lines front.texts ++ l) (sym (append-nil text)) ∙ sym (flat_map-append (λ line. line) front.texts (text ∷ [])) ∙ sym (append-nil (joined_lines (front.texts ++ text ∷ [])));
   shown = shown_more front.texts verdicts text (bay, verdict) front.shown shows;
 }
+
+-- the same certificates, and then others
+pub shown_both : (texts others : List (List ℕ)) (verdicts more : List (YardBay × Verdict)) → ShowEach texts verdicts → ShowEach others more → ShowEach (texts ++ others) (verdicts ++ more)
+shown_both [] others [] more s t = t
+shown_both [] others (v ∷ verdicts) more s t = absurd s
+shown_both (text ∷ texts) others [] more s t = absurd s
+shown_both (text ∷ texts) others (v ∷ verdicts) more s t = (s.0, shown_both texts others verdicts more s.1 t)
+
+pub front_both : (before file : List ℕ) (verdicts more : List (YardBay × Verdict)) (rest : List ℕ) → IsEndedFront before verdicts [] → IsEndedFront file more rest →
+    IsEndedFront (before ++ file) (verdicts ++ more) rest
+front_both before file verdicts more rest first front = record {
+  texts = first.texts ++ front.texts;
+  ended = all_both IsEnded first.texts front.texts first.ended front.ended;
+  is = ap (λ l. l ++ file) (first.is ∙ append-nil (joined_lines first.texts)) ∙ ap (λ l. joined_lines first.texts ++ l) front.is ∙ sym (append_assoc (joined_lines first.texts) (joined_lines front.texts) rest)
+      ∙ ap (λ l. l ++ rest) (sym (flat_map-append (λ line. line) first.texts front.texts));
+  shown = shown_both first.texts front.texts verdicts more first.shown front.shown;
+}
+
+-- a checker has read what stands behind certificates that have ended: it stands as one that has read them too
+pub read_behind : (before file : List ℕ) (verdicts more : List (YardBay × Verdict)) (checker : FileChecker) → IsEndedFront before verdicts [] → HasReadFile file more checker →
+    HasReadFile (before ++ file) (verdicts ++ more) checker
+read_behind before file verdicts more checker first at = record {
+  text = at.text;
+  front = front_both before file verdicts more at.text first at.front;
+  read = at.read;
+  unended = at.unended;
+  none_begun = at.none_begun;
+  some_begun = at.some_begun;
+  none_refused = at.none_refused;
+}
+
+-- a text has begun exactly where it has a byte
+pub begun_exactly : (begun : Bool) (text : List ℕ) → (begun ≡ false → text ≡ []) → (begun ≡ true → text ≢ []) → (begun ≡ false) ↔ (text ≡ [])
+begun_exactly false text none some = (none, λ e. refl)
+begun_exactly true text none some = (none, λ e. absurd (some refl e))
 
 -- the file begins with the texts
 begins_from : (texts : List (List ℕ)) (file rest : List ℕ) → AllByRecursion IsEnded texts → file ≡ joined_lines texts ++ rest → BeginsWithTexts file texts rest

@@ -1,5 +1,5 @@
 -- What a checker of a file has read.
-use Rattle.std.specs.Prelude.{◌≡◌, ◌≢◌, ℕ, ◌≤◌, List, [], ◌∷◌, ◌++◌, length, take, true, false, Option, Some, None, ◌⊎◌}
+use Rattle.std.specs.Prelude.{◌≡◌, ◌≢◌, ◌↔◌, ℕ, ◌≤◌, List, [], ◌∷◌, ◌++◌, length, take, Bool, true, false, Option, Some, None, ◌⊎◌}
 use Rattle.std.specs.List.{AllByRecursion}
 use Rattle.crp_plan.specs.BayNames.{YardBay}
 use Rattle.crp_checker.specs.declared.verdict.Verdict.{Verdict}
@@ -28,6 +28,10 @@ pub record HasReadFile (file : List ℕ) (verdicts : List (YardBay × Verdict)) 
   pub none_begun : checker.has_begun ≡ false → text ≡ []
   pub some_begun : checker.has_begun ≡ true → text ≢ []
   pub none_refused : checker.refused ≡ None
+
+-- the certificates of the file that have ended show this, and whether bytes of one more follow them
+abbrev pub IsBegunBehind : List ℕ → List (YardBay × Verdict) → Bool → Type 0
+IsBegunBehind file verdicts begun = (rest : List ℕ) × IsEndedFront file verdicts rest × ((begun ≡ false) ↔ (rest ≡ []))
 
 -- the checker has refused a certificate for this, or has no memory left to say so
 abbrev pub HasRefused : Refused → FileChecker → Type 0

@@ -4,7 +4,7 @@ ghost use Rattle.crp_plan.specs.BayNames.{YardBay};
 ghost use Rattle.crp_checker.specs.declared.verdict.Verdict.{Verdict as Shown};
 ghost use Rattle.crp_checker.specs.declared.refused.Refused.{Refused as Reason};
 ghost use Rattle.crp_checker.specs.Files.{IsFileRefusal};
-ghost use Rattle.crp_checker.specs.FedFiles.{HasReadFile, HasRefused, LeadsOn, ShowsLast};
+ghost use Rattle.crp_checker.specs.FedFiles.{HasReadFile, HasRefused, IsBegunBehind, LeadsOn, ShowsLast};
 
 use crate::checker::Checker;
 use crate::refused::Refused;
@@ -65,6 +65,14 @@ impl FileChecker {
             has_begun: false,
             refused: None,
         }
+    }
+
+    /// Whether bytes have come of a certificate that has not ended.
+    pub fn has_begun(&self) -> bool
+        ensures { (file : List ℕ) (verdicts : List (YardBay × Shown)) → HasReadFile file verdicts self.now → IsBegunBehind file verdicts result }
+    {
+        let FileChecker { has_begun, .. } = self;
+        *has_begun
     }
 
     /// Notes why a certificate is refused, and says it.

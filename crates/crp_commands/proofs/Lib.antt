@@ -2,6 +2,7 @@
 pub mod Replayed
 pub mod NotRewritten
 pub mod Checked
+pub mod SideBySide
 pub mod Audited
 pub mod ListedAbsent
 pub mod Traced

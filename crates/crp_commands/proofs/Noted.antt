@@ -30,7 +30,7 @@ shown_none held = shows_nothing held
 pub unnoted_in : (c : FileCommand) (held : Option (List ℕ)) (failures : ℕ) → IsNotedIn c (record { held = held; holds = held; before = failures; after = failures })
 unnoted_in command.Replay held failures = (Keeps-refl held, refl)
 unnoted_in (command.Bound chains) held failures = (Keeps-refl held, refl)
-unnoted_in (command.Check any_size) held failures = inl (Keeps-refl held, refl)
+unnoted_in (command.Check any_size workers) held failures = inl (Keeps-refl held, refl)
 unnoted_in (command.Prove search) held failures = (Keeps-refl held, refl)
 unnoted_in command.Rewrite held failures = (Keeps-refl held, refl)
 
@@ -49,14 +49,14 @@ pub tells_more : (stated : List (YardBay × Verdict)) (last : YardBay × Verdict
 tells_more [] last s alone = alone
 tells_more (first ∷ rest) last s alone = alone
 
-noted_of : (any_size : Bool) (stated : List (YardBay × Verdict)) (s : SinkSeen) → TellsOfNone stated s → IsNotedIn (command.Check any_size) s
-noted_of any_size [] s note = inr note
-noted_of any_size (first ∷ rest) s alone = inl alone
+noted_of : (any_size : Bool) (workers : ℕ) (stated : List (YardBay × Verdict)) (s : SinkSeen) → TellsOfNone stated s → IsNotedIn (command.Check any_size workers) s
+noted_of any_size workers [] s note = inr note
+noted_of any_size workers (first ∷ rest) s alone = inl alone
 
 -- what a check shows, however it ended
-pub noted_check : (any_size : Bool) (lines s : SinkSeen) (answer : Result Status ToolFault) → MatchResult answer (λ _. TellsWhetherEmpty lines s) (λ _. IsLeftAlone s) → IsNotedIn (command.Check any_size) s
-noted_check any_size lines s (Ok status) (stated, written, tells) = noted_of any_size stated s tells
-noted_check any_size lines s (Err fault) alone = inl alone
+pub noted_check : (any_size : Bool) (workers : ℕ) (lines s : SinkSeen) (answer : Result Status ToolFault) → MatchResult answer (λ _. TellsWhetherEmpty lines s) (λ _. IsLeftAlone s) → IsNotedIn (command.Check any_size workers) s
+noted_check any_size workers lines s (Ok status) (stated, written, tells) = noted_of any_size workers stated s tells
+noted_check any_size workers lines s (Err fault) alone = inl alone
 
 -- what a sink saw first, and then
 abbrev pub seen_from : Option (List ℕ) → Option (List ℕ) → ℕ → ℕ → SinkSeen
@@ -81,8 +81,8 @@ lines_then a b c m n o text (inr (part, failed)) (next, more) = inr (part_kept a
 noted_in_alone : (d : FileCommand) (a b c : Option (List ℕ)) (m n o : ℕ) → IsNotedIn d (seen_from a b m n) → IsLeftAlone (seen_from b c n o) → IsNotedIn d (seen_from a c m o)
 noted_in_alone command.Replay a b c m n o first next = alone_then a b c m n o first next
 noted_in_alone (command.Bound chains) a b c m n o first next = alone_then a b c m n o first next
-noted_in_alone (command.Check any_size) a b c m n o (inl first) next = inl (alone_then a b c m n o first next)
-noted_in_alone (command.Check any_size) a b c m n o (inr first) next = inr (lines_then a b c m n o empty_note first next)
+noted_in_alone (command.Check any_size workers) a b c m n o (inl first) next = inl (alone_then a b c m n o first next)
+noted_in_alone (command.Check any_size workers) a b c m n o (inr first) next = inr (lines_then a b c m n o empty_note first next)
 noted_in_alone (command.Prove search) a b c m n o first next = alone_then a b c m n o first next
 noted_in_alone command.Rewrite a b c m n o first next = alone_then a b c m n o first next
 

@@ -105,11 +105,11 @@ noted_so ship asked s is noted = subst (λ (b : Bool). IsNotedBy (not b) s) is n
 -- ---- how a call ends
 
 -- the sources had an input and a report: what comes of its texts is what comes of the call
-pub texts_of_call : (ship : Option Ship) (loaded : Option ℕ) (yard : Inventory) (report : List ℕ) (numbers : Numbers) (bays : List BayFollowed) (x : Texts) (asked : Bool)
+pub texts_of_call : (ship : Option Ship) (loaded : Option ℕ) (summary : Bool) (yard : Inventory) (report : List ℕ) (numbers : Numbers) (bays : List BayFollowed) (x : Texts) (asked : Bool)
     (sink : SinkSeen) → IsFollowed yard report numbers bays → loading_faults ship bays ≡ [] → x.page ≡ page_text yard (numbers_for ship yard numbers) bays
-    → (IsTrue asked → IsListBehind yard (made_for ship loaded bays) x.list) → x.table ≡ table_for ship bays
-    → AreTextsOf ship loaded yard report (is_some (if_asked asked sink)) x
-texts_of_call ship loaded yard report numbers bays x asked sink followed faultless page list table = record {
+    → (IsTrue asked → IsListBehind yard (made_for ship loaded bays) x.list) → x.table ≡ table_for summary ship bays
+    → AreTextsOf ship loaded summary yard report (is_some (if_asked asked sink)) x
+texts_of_call ship loaded summary yard report numbers bays x asked sink followed faultless page list table = record {
   numbers = numbers;
   bays = bays;
   is_loaded = (followed, faultless);

@@ -1,5 +1,5 @@
 -- What `follow` does: the moves of a report, whoever wrote it, are followed over a yard, and the table of them is written, in the order in which the ship is
--- loaded where a message is asked for; and their page, and the list of the yard as they leave it, where these are asked for.
+-- loaded where a message is asked for, or that of the bays; and their page, and the list of the yard as they leave it, where these are asked for.
 use Rattle.std.specs.Prelude.{◌≡◌, ◌≢◌, ℕ, Bool, true, false, ◌+◌, ◌-◌, ◌<◌, ◌≤◌, ◌⊎◌, List, [], length, codes, Option, Some, None, option_map, option_and_then, IfSome, IsSomeAnd, MatchOption, IsTrue, is_some, Result, MatchResult, ⊤}
 use Rattle.crp_plan.specs.Devices.{HasFailed, most_interruptions}
 use Rattle.crp_sizes.specs.Sizes.{YardSizes}
@@ -12,6 +12,7 @@ use Rattle.crp_follow.specs.Stated.{most_bytes}
 use Rattle.crp_follow.specs.Followed.{BayFollowed, IsFollowed}
 use Rattle.crp_follow.specs.Faults.{IsFirstFault}
 use Rattle.crp_follow.specs.Table.{table_text}
+use Rattle.crp_follow.specs.Summary.{summary_text}
 use Rattle.crp_follow.specs.Behind.{Made, IsListBehind, all_moves}
 use Rattle.crp_loading.specs.declared.fault.LoadingFault.{LoadingFault}
 use Rattle.crp_loading.specs.declared.fault.LoadingFault.TheVariants as loading
@@ -19,6 +20,8 @@ use Rattle.crp_loading.specs.Faults.{faults_of, IsFirst}
 use Rattle.crp_loading.specs.Loading.{load_text}
 use Rattle.crp_loading.specs.Loaded.{made_up_to}
 use Rattle.crp_page.specs.Page.{page_text}
+use Rattle.crp_page.specs.declared.ordered.OrderNumbers.{OrderNumbers}
+use Rattle.crp_page.specs.declared.ordered.OrderNumbers.TheVariants.{Counted, Stated}
 use Rattle.crp_report.specs.declared.fault.Fault.{Fault}
 use Rattle.crp_report.specs.declared.fault.Fault.TheVariants as run
 use Rattle.crp_report.specs.declared.fault.Input.TheVariants as input
@@ -40,11 +43,13 @@ use Rattle.crp_files.specs.Roles.{IsShared}
 use Rattle.crp_jobs.specs.Names.{after_name, named_in_follow}
 use Rattle.crp_jobs.specs.Opened.{FilesSeen, FilesFail, AreUnemptied, IsFileOpened, IsFileMade, IsLeft, IsSourceLeftAlone, IsLeftAlone}
 
--- what is asked for: what the input means, how many containers the ship has got, if the yard after is that of then, and whether the report may end early
+-- what is asked for: what the input means, how many containers the ship has got, if the yard after is that of then, whether the report may end early, and
+-- whether the table is to be that of the bays
 pub record FollowChosen : Type 0 where
   pub input : InputChosen
   pub loaded : Option ℕ
   pub partial : Bool
+  pub summary : Bool
 
 -- what a call saw of the sinks of its texts: that of the page and that of the list, where these are asked for, and that of the table
 pub record TextsSeen : Type 0 where
@@ -113,10 +118,12 @@ IsNoReport source f = ⊥
 
 -- ---- what comes of it
 
--- the table of a report that is followed: by the turns of the ship, where there is one, and else bay by bay
-abbrev pub table_for : Option Ship → List BayFollowed → List ℕ
-table_for None bays = table_text bays
-table_for (Some ship) bays = load_text ship.1 ship.0.list bays
+-- the table of a report that is followed: that of its bays, where this is asked for; else that of its moves, by the turns of the ship, where there is one, and
+-- else bay by bay
+abbrev pub table_for : Bool → Option Ship → List BayFollowed → List ℕ
+table_for true ship bays = summary_text bays
+table_for false None bays = table_text bays
+table_for false (Some ship) bays = load_text ship.1 ship.0.list bays
 
 -- the faults of its takes by the ship's order, where there is one
 abbrev pub loading_faults : Option Ship → List BayFollowed → List LoadingFault
@@ -127,10 +134,10 @@ loading_faults (Some ship) bays = faults_of ship.1 bays
 abbrev pub IsLoaded : Option Ship → Inventory → List ℕ → Numbers → List BayFollowed → Type 0
 IsLoaded ship yard report numbers bays = IsFollowed yard report numbers bays × (loading_faults ship bays ≡ [])
 
--- the numbers on the page: those of the yard and the message, where there is one, and else those that the report states
-abbrev pub numbers_for : Option Ship → Inventory → Numbers → Numbers
-numbers_for None yard stated = stated
-numbers_for (Some ship) yard stated = numbers_of yard ship.0 ship.1
+-- the numbers on the page: counted from the yard and the message, where there is one, and else as the report states them
+abbrev pub numbers_for : Option Ship → Inventory → Numbers → OrderNumbers
+numbers_for None yard stated = Stated stated
+numbers_for (Some ship) yard stated = Counted (numbers_of yard ship.0 ship.1)
 
 -- the moves that were made in the yard after: those up to so many containers of the ship, where that is asked for, and else all
 abbrev pub made_for : Option Ship → Option ℕ → List BayFollowed → List Made
@@ -138,20 +145,20 @@ made_for (Some ship) (Some n) bays = made_up_to ship.1 n bays
 made_for (Some ship) None bays = all_moves bays
 made_for None loaded bays = all_moves bays
 
--- the texts of a report: its page, the list of the yard behind its moves, and the table of them
+-- the texts of a report: its page, the list of the yard behind its moves, and the table of them or of its bays
 pub record Texts : Type 0 where
   pub page : List ℕ
   pub list : List ℕ
   pub table : List ℕ
 
 -- the report is followed over the yard and loads the ship, and these are its texts, that of the list where it is wanted
-pub record AreTextsOf (ship : Option Ship) (loaded : Option ℕ) (yard : Inventory) (report : List ℕ) (wanted : Bool) (x : Texts) : Type 0 where
+pub record AreTextsOf (ship : Option Ship) (loaded : Option ℕ) (summary : Bool) (yard : Inventory) (report : List ℕ) (wanted : Bool) (x : Texts) : Type 0 where
   pub numbers : Numbers
   pub bays : List BayFollowed
   pub is_loaded : IsLoaded ship yard report numbers bays
   pub page : x.page ≡ page_text yard (numbers_for ship yard numbers) bays
   pub list : IsTrue wanted → IsListBehind yard (made_for ship loaded bays) x.list
-  pub table : x.table ≡ table_for ship bays
+  pub table : x.table ≡ table_for summary ship bays
 
 -- why a report has no texts: its first fault, or where it is followed the first fault of its takes, or lack of memory
 abbrev pub HasNoTexts : Option Ship → Inventory → List ℕ → ToolFault → Type 0
@@ -187,13 +194,13 @@ StopsWriting x t fault.Memory = IfSome t.page (λ s. GetsFront s x.page) × IfSo
 StopsWriting x t f = ⊥
 
 -- the texts of the report were written
-abbrev pub WritesTexts : Option Ship → Option ℕ → Inventory → List ℕ → TextsSeen → Type 0
-WritesTexts ship loaded yard report t = (x : Texts) × AreTextsOf ship loaded yard report (is_some t.list) x × WritesAll x t
+abbrev pub WritesTexts : Option Ship → Option ℕ → Bool → Inventory → List ℕ → TextsSeen → Type 0
+WritesTexts ship loaded summary yard report t = (x : Texts) × AreTextsOf ship loaded summary yard report (is_some t.list) x × WritesAll x t
 
 -- why they were not: there are none, and nothing was written; or not all of them were
-abbrev pub StopsFollowing : Option Ship → Option ℕ → Inventory → List ℕ → TextsSeen → ToolFault → Type 0
-StopsFollowing ship loaded yard report t f = (HasNoTexts ship yard report f × WritesNothing t)
-    ⊎ ((x : Texts) × AreTextsOf ship loaded yard report (is_some t.list) x × StopsWriting x t f)
+abbrev pub StopsFollowing : Option Ship → Option ℕ → Bool → Inventory → List ℕ → TextsSeen → ToolFault → Type 0
+StopsFollowing ship loaded summary yard report t f = (HasNoTexts ship yard report f × WritesNothing t)
+    ⊎ ((x : Texts) × AreTextsOf ship loaded summary yard report (is_some t.list) x × StopsWriting x t f)
 
 -- the sources had this input and a text that is this report: of one that ends early it is the report with its last line
 pub record AreGiven (chosen : FollowChosen) (s : FollowSeen) (yard : Inventory) (ship : Option Ship) (report : List ℕ) : Type 0 where
@@ -203,7 +210,7 @@ pub record AreGiven (chosen : FollowChosen) (s : FollowSeen) (yard : Inventory) 
 -- the sources had an input and a report that is followed: its texts were written, and nothing else
 abbrev pub Follows : FollowChosen → FollowSeen → Type 0
 Follows chosen s = (yard : Inventory) × (ship : Option Ship) × (report : List ℕ) × AreGiven chosen s yard ship report
-    × WritesTexts ship chosen.loaded yard report s.texts
+    × WritesTexts ship chosen.loaded chosen.summary yard report s.texts
 
 -- why there is no input, as a run states it, or where it is accepted no report
 abbrev pub IsNotRead : FollowChosen → FollowSeen → ToolFault → Type 0
@@ -214,7 +221,7 @@ IsNotRead chosen s f = ((g : Fault) × (f ≡ fault.Run g) × IsNoFollowInput ch
 abbrev pub FollowFailsWith : FollowChosen → FollowSeen → ToolFault → Type 0
 FollowFailsWith chosen s f = (IsNotRead chosen s f × WritesNothing s.texts)
     ⊎ ((yard : Inventory) × (ship : Option Ship) × (report : List ℕ) × AreGiven chosen s yard ship report
-    × StopsFollowing ship chosen.loaded yard report s.texts f)
+    × StopsFollowing ship chosen.loaded chosen.summary yard report s.texts f)
 
 -- ---- with its failures
 
@@ -334,7 +341,7 @@ FollowStops chosen u s f = FollowFails chosen s f ⊎ (IsUnended u f × ((ended 
 
 -- what is asked for by these names, where the input means this
 abbrev pub chosen_by : FollowFiles → InputChosen → FollowChosen
-chosen_by names input = record { input = input; loaded = option_and_then (λ file. file.loaded) names.after; partial = names.partial }
+chosen_by names input = record { input = input; loaded = option_and_then (λ file. file.loaded) names.after; partial = names.partial; summary = names.summary }
 
 -- how the job ends
 abbrev pub FollowReportsOverFiles : FollowFiles → InputChosen → FilesSeen → SourceSeen → SinkSeen → Status → Type 0

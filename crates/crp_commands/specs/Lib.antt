@@ -9,6 +9,7 @@ pub mod Absent
 pub mod Follow
 pub mod Rewrite
 pub mod Checks
+pub mod Apart
 pub mod Solving
 pub mod Performing
 pub mod Headlines

@@ -36,7 +36,7 @@ IsNotedBy false s = ShowsMore s.held s.holds
 
 -- a check leaves the sink alone, or shows that the file holds no certificate; another command over one file leaves it alone
 abbrev pub IsNotedIn : FileCommand → SinkSeen → Type 0
-IsNotedIn (command.Check any_size) s = IsLeftAlone s ⊎ GetsLines s empty_note
+IsNotedIn (command.Check any_size workers) s = IsLeftAlone s ⊎ GetsLines s empty_note
 IsNotedIn command.Replay s = IsLeftAlone s
 IsNotedIn (command.Bound chains) s = IsLeftAlone s
 IsNotedIn (command.Prove search) s = IsLeftAlone s

@@ -32,7 +32,7 @@ use Rattle.crp_commands.specs.declared.streams.Streams.{Streams}
 abbrev pub Performs : FileCommand → Status → CallSeen → Type 0
 Performs command.Replay ended s = (ended ≡ status.Decided) × WritesReport IsTextOf IsReplay s
 Performs (command.Bound chains) ended s = (ended ≡ status.Decided) × WritesReport IsTextOf (IsBound chains) s
-Performs (command.Check any_size) ended s = (ended ≡ status.Decided) × WritesReport (IsTextWithin (most_bytes any_size)) IsCheck s
+Performs (command.Check any_size workers) ended s = (ended ≡ status.Decided) × WritesReport (IsTextWithin (most_bytes any_size)) IsCheck s
 Performs (command.Prove search) ended s = WritesReport IsTextOf (IsProof search ended) s
 Performs command.Rewrite ended s = (ended ≡ status.Decided) × WritesReport IsTextOf IsRewritten s
 
@@ -40,7 +40,7 @@ Performs command.Rewrite ended s = (ended ≡ status.Decided) × WritesReport Is
 abbrev pub CommandFailsWith : FileCommand → CallSeen → ToolFault → Type 0
 CommandFailsWith command.Replay s f = CallFailsWith MOST_BYTES IsReplay IsNoReplay s f
 CommandFailsWith (command.Bound chains) s f = CallFailsWith MOST_BYTES (IsBound chains) IsNoBound s f
-CommandFailsWith (command.Check any_size) s f = CheckFailsWith (most_bytes any_size) s f
+CommandFailsWith (command.Check any_size workers) s f = CheckFailsWith (most_bytes any_size) s f
 CommandFailsWith (command.Prove search) s f = CallFailsWith MOST_BYTES (IsSomeProof search) IsNoProof s f
 CommandFailsWith command.Rewrite s f = RewriteFailsWith s f
 
@@ -101,7 +101,7 @@ abbrev pub unread_by : FileCommand → ToolFault
 unread_by command.Rewrite = fault.ReadOf statement.Report
 unread_by command.Replay = fault.Read
 unread_by (command.Bound chains) = fault.Read
-unread_by (command.Check any_size) = fault.Read
+unread_by (command.Check any_size workers) = fault.Read
 unread_by (command.Prove search) = fault.Read
 
 -- the file of this name cannot be opened, as the standard input always can: this is a failed read, and all else was left alone

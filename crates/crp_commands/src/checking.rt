@@ -9,6 +9,8 @@ ghost use Rattle.crp_jobs.specs.Opened.{IsLeftAlone};
 ghost use Rattle.crp_commands.specs.Noted.{TellsWhetherEmpty};
 ghost use Rattle.crp_commands.specs.Checks.{TextFailsWith, IsChecking, ChecksPiece, PieceFailsWith, CheckHasGoneOn, CheckStopsAt};
 
+use crate::apart::check_apart;
+use crate::blocks::{Left, fill};
 use crate::heads::{ANY_SIZE, MOST_BYTES};
 use crate::noting::note_if_none;
 use crp_cert::push_decimal;
@@ -18,9 +20,13 @@ use crp_plan::{BayName, Sink, Source, read_some, write_all};
 use crp_report::Status;
 use crp_said::push_bay_words;
 use std::alloc::{AllocError, Global};
+use std::thread::Threads;
 
 // How many bytes are read at a time, at most.
 const PIECE: usize = 16_384;
+
+// So many bytes are held for each worker, where several check.
+const SHARE: usize = 1 << 25;
 
 // Adds the relocations of a plan, if there is one.
 fn push_plan_words(text: &mut Vec<u8>, count: Option<u32>) -> Result<(), AllocError>
@@ -140,8 +146,8 @@ fn check_some<W: Sink>(
     }
 }
 
-// Checks a piece, and writes the line of each certificate that ends in it.
-fn check_piece<W: Sink>(
+/// Checks a piece, and writes the line of each certificate that ends in it.
+pub(crate) fn check_piece<W: Sink>(
     alloc: Global,
     files: &mut FileChecker,
     number: &mut u64,
@@ -168,12 +174,72 @@ fn check_piece<W: Sink>(
     Ok(())
 }
 
-// Reads a piece and checks what of it is within the limit. The answer says whether more may come.
-fn check_next<R: Source, W: Sink>(
+// Reads a block, has so many workers check what of it is within the limit, and keeps it to be filled again. The answer says whether more may come. A read that fails is stated behind what the bytes
+// before it show.
+fn check_block<T: Threads + Sync, R: Source, W: Sink>(
+    rt: &T,
     alloc: Global,
+    workers: u32,
     files: &mut FileChecker,
     number: &mut u64,
     left: &mut usize,
+    block: &mut Vec<u8>,
+    reader: &mut R,
+    writer: &mut W,
+    interruptions: &mut u32,
+) -> Result<bool, ToolFault>
+    requires some { 0 < workers }
+    requires reading { IsChecking (W.contents writer.old) files.old number.old }
+    requires room { number.old + left.old < 2 ^ 64 }
+    requires passed { interruptions.old ≤ most_interruptions }
+    ensures nearer { IfOk result (λ more. more ≡ true → left.new < left.old) }
+    ensures end { IfOk result (λ more. more ≡ false → IsAtEnd (R.remaining reader.new)) }
+    ensures room { OnOk result (number.new + left.new ≤ number.old + left.old) }
+    ensures on { OnOk result (CheckHasGoneOn
+        (record { remaining = R.remaining reader.old; holds = W.contents writer.old; files = files.old; number = number.old; left = left.old })
+        (record { remaining = R.remaining reader.new; holds = W.contents writer.new; files = files.new; number = number.new; left = left.new })) }
+    ensures fault { IfErr result (CheckStopsAt
+        (record { remaining = R.remaining reader.old; holds = W.contents writer.old; files = files.old; number = number.old; left = left.old })
+        (W.contents writer.new) (R.failures reader.old) (R.failures reader.new) (W.failures writer.old) (W.failures writer.new)) }
+    ensures counted { MatchResult result
+        (λ _. R.failures reader.new + W.failures writer.new + interruptions.old ≤ R.failures reader.old + W.failures writer.old + interruptions.new)
+        (λ fault. R.failures reader.new + W.failures writer.new + interruptions.old ≤ R.failures reader.old + W.failures writer.old + interruptions.new + failures_of_tool_fault fault) }
+    ensures count { (R.failures reader.old ≤ R.failures reader.new) × (W.failures writer.old ≤ W.failures writer.new) }
+    ensures passed { (interruptions.old ≤ interruptions.new) × (interruptions.new ≤ most_interruptions) }
+{
+    let workers = workers as usize;
+    let more = fill(reader, block, workers * SHARE, interruptions)?;
+    let fed = block.len().min(*left);
+    check_apart(
+        rt,
+        alloc,
+        workers,
+        files,
+        number,
+        &block[..fed],
+        writer,
+        interruptions,
+    )?;
+    if fed < block.len() {
+        return Err(ToolFault::TooLarge);
+    }
+    *left -= block.len();
+    match more {
+        Left::More => Ok(true),
+        Left::Nothing => Ok(false),
+        Left::Failure => Err(ToolFault::Read),
+    }
+}
+
+// Reads a piece and checks what of it is within the limit; a block, where several workers check. The answer says whether more may come.
+fn check_next<T: Threads + Sync, R: Source, W: Sink>(
+    rt: &T,
+    alloc: Global,
+    workers: u32,
+    files: &mut FileChecker,
+    number: &mut u64,
+    left: &mut usize,
+    block: &mut Vec<u8>,
     reader: &mut R,
     writer: &mut W,
     interruptions: &mut u32,
@@ -196,6 +262,20 @@ fn check_next<R: Source, W: Sink>(
     ensures count { (R.failures reader.old ≤ R.failures reader.new) × (W.failures writer.old ≤ W.failures writer.new) }
     ensures passed { (interruptions.old ≤ interruptions.new) × (interruptions.new ≤ most_interruptions) }
 {
+    if workers > 1 {
+        return check_block(
+            rt,
+            alloc,
+            workers,
+            files,
+            number,
+            left,
+            block,
+            reader,
+            writer,
+            interruptions,
+        );
+    }
     let mut piece = [0u8; PIECE];
     let n = read_some(reader, &mut piece, interruptions)?;
     if n == 0 {
@@ -219,13 +299,16 @@ fn most_bytes(any_size: bool) -> usize
 }
 
 /// Writes for each certificate of a source's bytes whose it is and what it shows, as soon as it has ended. A fault comes after
-/// the lines of the certificates that ended before. Where no certificate is there, `errors` gets a note that says so, and nothing else.
-pub fn check<R: Source, W: Sink, E: Sink>(
+/// the lines of the certificates that ended before. Several workers check side by side, and their lines come when a block is checked; with
+/// any number of them the same is written. Where no certificate is there, `errors` gets a note that says so, and nothing else.
+pub fn check<T: Threads + Sync, R: Source, W: Sink, E: Sink>(
+    rt: &T,
     alloc: Global,
     reader: &mut R,
     writer: &mut W,
     errors: &mut E,
     any_size: bool,
+    workers: u32,
 ) -> Result<Status, ToolFault>
     ensures done { let seen : CallSeen = record {
       given = R.remaining reader.old;
@@ -245,16 +328,21 @@ pub fn check<R: Source, W: Sink, E: Sink>(
     let mut files = FileChecker::new(alloc);
     let mut number = 1;
     let mut left = most_bytes(any_size);
+    let mut block = Vec::new(alloc);
     let mut interruptions = 0;
     while check_next(
+        rt,
         alloc,
+        workers,
         &mut files,
         &mut number,
         &mut left,
+        &mut block,
         reader,
         writer,
         &mut interruptions,
     )? {}
+    drop(block);
     match files.finish() {
         Ok(None) => {
             note_if_none(errors, number);

@@ -1,6 +1,6 @@
 //! The command `follow`: from the bytes of a yard list and a report, and of a message where one is asked for, to the table of the moves, and
 //! to their page and the list of the yard behind them where these are asked for.
-ghost use Rattle.std.specs.Prelude.{◌≡◌, ◌≤◌, ◌+◌, ◌-◌, ◌⊎◌, ◌&&◌, [], ℕ, List, Option, map, IfOk, OnOk, IfErr, IsTrue, MatchResult, is_some, not};
+ghost use Rattle.std.specs.Prelude.{◌≡◌, ◌≤◌, ◌+◌, ◌-◌, ◌⊎◌, ◌&&◌, [], ℕ, List, Option, map, IfOk, OnOk, IfErr, IsTrue, MatchResult, false, is_some, not};
 ghost use Rattle.std.specs.Bool.{OnFalse};
 ghost use Rattle.std.specs.List.{AllByRecursion};
 ghost use Rattle.crp_plan.specs.Devices.{most_interruptions};
@@ -22,13 +22,15 @@ ghost use Rattle.crp_commands.specs.Noted.{IsNotedBy};
 
 use crate::auditing::{InputRead, input_from};
 use crate::partial::report_in;
-use crp_follow::{FollowFault, Followed, MAX_BYTES, list_behind, move_counts, table_text};
+use crp_follow::{
+    FollowFault, Followed, MAX_BYTES, list_behind, move_counts, summary_text, table_text,
+};
 use crp_jobs::{Statement, ToolFault};
 use crp_loading::{LoadingFault, counts_up_to, load_table};
 use crp_movins::Orders;
 use crp_notes::note_left;
 use crp_order::Sequence;
-use crp_page::write_page;
+use crp_page::{OrderNumbers, write_page};
 use crp_plan::{ReadFault, Sink, Source, WriteFault, read_all, write_all};
 use crp_report::{Fault, InputSettings, Output, Status, numbers_of, yard_from};
 use crp_said::Numbers;
@@ -50,6 +52,8 @@ pub struct FollowSettings<'a> {
     pub loaded: Option<u64>,
     /// Whether the report may end early, without its last line.
     pub partial: bool,
+    /// Whether the table is to be that of the bays, in place of that of the moves.
+    pub summary: bool,
 }
 
 /// Where a yard list and a message come from.
@@ -155,14 +159,14 @@ pub(crate) fn report_from<R: Source>(
     }
 }
 
-// The table of a report that is followed: in the order of the ship, where there is one, or else bay by bay.
-fn table_for(
+// The table of the moves of a report that is followed: in the order of the ship, where there is one, or else bay by bay.
+fn table_of_moves(
     alloc: Global,
     followed: &Followed,
     ship: &Option<(Orders, Sequence)>,
 ) -> Result<Vec<u8>, LoadingFault>
     requires { AllByRecursion StandFew (map bay_followed followed.now.bays.items) }
-    ensures table { IfOk result (λ text. text.items ≡ table_for ship.now (map bay_followed followed.now.bays.items)) }
+    ensures table { IfOk result (λ text. text.items ≡ table_for false ship.now (map bay_followed followed.now.bays.items)) }
     ensures faultless { OnOk result (loading_faults ship.now (map bay_followed followed.now.bays.items) ≡ []) }
     ensures refused { IfErr result (λ fault. (fault ≡ LoadingFault.Memory) ⊎ IsFirst (loading_faults ship.now (map bay_followed followed.now.bays.items)) fault) }
 {
@@ -170,6 +174,25 @@ fn table_for(
         Some((orders, sequence)) => load_table(alloc, followed, orders, sequence),
         None => Ok(table_text(alloc, followed)?),
     }
+}
+
+// The table of a report that is followed: that of its bays, where this is asked for, or else that of its moves.
+fn table_for(
+    alloc: Global,
+    followed: &Followed,
+    ship: &Option<(Orders, Sequence)>,
+    summary: bool,
+) -> Result<Vec<u8>, LoadingFault>
+    requires { AllByRecursion StandFew (map bay_followed followed.now.bays.items) }
+    ensures table { IfOk result (λ text. text.items ≡ table_for summary ship.now (map bay_followed followed.now.bays.items)) }
+    ensures faultless { OnOk result (loading_faults ship.now (map bay_followed followed.now.bays.items) ≡ []) }
+    ensures refused { IfErr result (λ fault. (fault ≡ LoadingFault.Memory) ⊎ IsFirst (loading_faults ship.now (map bay_followed followed.now.bays.items)) fault) }
+{
+    let moves = table_of_moves(alloc, followed, ship)?;
+    if summary {
+        return Ok(summary_text(alloc, followed)?);
+    }
+    Ok(moves)
 }
 
 // How many of its moves were made in each bay.
@@ -218,11 +241,11 @@ fn made_of(
     ensures faultless { IfOk result (λ made. loading_faults input.now.ship (map bay_followed made.followed.bays.items) ≡ []) }
     ensures list { IfOk result (λ made. IsTrue settings.now.list
         → IsListBehind input.now.yard (made_for input.now.ship settings.now.loaded (map bay_followed made.followed.bays.items)) made.list.items) }
-    ensures table { IfOk result (λ made. made.table.items ≡ table_for input.now.ship (map bay_followed made.followed.bays.items)) }
+    ensures table { IfOk result (λ made. made.table.items ≡ table_for settings.now.summary input.now.ship (map bay_followed made.followed.bays.items)) }
     ensures refused { IfErr result (HasNoTexts input.now.ship input.now.yard report.now) }
 {
     let followed = crp_follow::follow(alloc, &input.yard, report)?;
-    let table = table_for(alloc, &followed, &input.ship)?;
+    let table = table_for(alloc, &followed, &input.ship, settings.summary)?;
     let list = list_if(alloc, input, &followed, settings)?;
     Ok(FollowMade {
         followed,
@@ -248,13 +271,15 @@ fn note_ship<E: Sink>(
     }
 }
 
-// The numbers on the page: those of the yard and the message, where there is one, or else those that the report states.
-fn numbers_for(input: &FollowInput, stated: Numbers) -> Numbers
+// The numbers on the page: counted from the yard and the message, where there is one, or else as the report states them.
+fn numbers_for(input: &FollowInput, stated: Numbers) -> OrderNumbers
     ensures { result ≡ numbers_for input.now.ship input.now.yard stated }
 {
     match &input.ship {
-        Some((orders, sequence)) => numbers_of(&input.yard, orders, sequence),
-        None => stated,
+        Some((orders, sequence)) => {
+            OrderNumbers::Counted(numbers_of(&input.yard, orders, sequence))
+        }
+        None => OrderNumbers::Stated(stated),
     }
 }
 
@@ -366,7 +391,7 @@ fn write_texts<P: Sink, A: Sink, W: Sink>(
 
 /// Follows the moves of a report, whoever wrote it, over the yard that a list of bays gives. It writes the page of the moves, where one is
 /// wanted, behind it the list of the yard as they leave it, where that is, and then the table of them, in the order in which the ship gets
-/// the containers where a message is asked for; where something is refused, nothing. With a message it notes on `errors` what the report
+/// the containers where a message is asked for, or, where that is asked for, the table of the bays; where something is refused, nothing. With a message it notes on `errors` what the report
 /// leaves of what is ordered. A report that may end early is followed as far as it goes, which is noted too.
 #[tactic(auto, using(crate::proofs::Noted::unnoted))]
 pub fn follow<Y: Source, M: Source, R: Source, P: Sink, A: Sink, W: Sink, E: Sink>(
@@ -387,8 +412,8 @@ pub fn follow<Y: Source, M: Source, R: Source, P: Sink, A: Sink, W: Sink, E: Sin
       movins = if_asked settings.now.ship (source_seen M.remaining M.failures listed.old.movins listed.new.movins);
       report = source_seen R.remaining R.failures report.old report.new;
       texts = texts;
-    } in MatchResult result (FollowEnds (record { input = settings.now.input.now; loaded = settings.now.loaded; partial = settings.now.partial }) seen)
-        (FollowFails (record { input = settings.now.input.now; loaded = settings.now.loaded; partial = settings.now.partial }) seen) }
+    } in MatchResult result (FollowEnds (record { input = settings.now.input.now; loaded = settings.now.loaded; partial = settings.now.partial; summary = settings.now.summary }) seen)
+        (FollowFails (record { input = settings.now.input.now; loaded = settings.now.loaded; partial = settings.now.partial; summary = settings.now.summary }) seen) }
     ensures unread { OnFalse settings.now.ship (listed.new.movins ≡ listed.old.movins) }
     ensures alone { OnFalse settings.now.page (files.new.page ≡ files.old.page) }
     ensures list_alone { OnFalse settings.now.list (files.new.list ≡ files.old.list) }

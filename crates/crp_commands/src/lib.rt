@@ -9,7 +9,9 @@
 #![tactic(auto)]
 
 mod absences;
+mod apart;
 mod auditing;
+mod blocks;
 mod bounding;
 mod chain_line;
 mod checking;

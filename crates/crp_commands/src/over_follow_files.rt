@@ -78,6 +78,7 @@ fn follow_to<F: Files, Y: Source, M: Source, R: Source, W: Sink, E: Sink, P: Nam
         list: names.after.is_some(),
         loaded,
         partial: names.partial,
+        summary: names.summary,
     };
     let answer = follow(alloc, listed, report, &settings, &mut texts, out, errors);
     let paged = texts.page.finish(files, names.page);

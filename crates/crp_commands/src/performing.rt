@@ -44,7 +44,9 @@ pub fn perform<T: Threads + Wait + Sync, S: Terminal + Sync, R: Source, W: Sink,
     match command {
         FileCommand::Replay => replay(alloc, reader, writer),
         FileCommand::Bound { chains } => bound(alloc, reader, writer, *chains),
-        FileCommand::Check { any_size } => check(alloc, reader, writer, errors, *any_size),
+        FileCommand::Check { any_size, workers } => check(
+            rt, alloc, reader, writer, errors, *any_size, *workers,
+        ),
         FileCommand::Prove(search) => prove(rt, alloc, terminal, reader, writer, *search),
         FileCommand::Rewrite => rewrite(alloc, reader, writer),
     }

@@ -1,11 +1,10 @@
 -- The yard behind moves, one bay more.
-use Rattle.std.proofs.Common.{◌≡◌, ◌∙◌, ◌⊎◌, inl, inr, ℕ, zero, suc, ◌+◌, ◌<◌, ◌≤◌, arith, Bool, true, false, nat_le, min, List, [], ◌∷◌, ◌++◌, All, length, map, take, drop, get_or, Option, Some, None, slice_get, Result, Ok, Err, Vec, Global, refl, sym, ap, subst, append-nil}
+use Rattle.std.proofs.Common.{◌≡◌, ◌∙◌, ◌⊎◌, inl, inr, ℕ, zero, suc, ◌+◌, ◌≤◌, arith, Bool, true, false, List, [], ◌∷◌, ◌++◌, All, length, take, Option, Some, None, slice_get, Result, Ok, Err, Vec, Global, refl, sym, ap, subst, append-nil}
 use Rattle.std.specs.Prelude.{IfSome, IfOk, if◌then◌else◌}
 use Rattle.std.specs.List.{AllByRecursion}
 use Rattle.std.specs.Option.{option_map}
-use Rattle.std.proofs.lemmas.Bool.{leb-true, leb-false}
 use Rattle.std.proofs.lemmas.Option.{same_Some, none-some}
-use Rattle.std.proofs.lemmas.List.{drop_more, take_all, take-map}
+use Rattle.std.proofs.lemmas.List.{take_all}
 use Rattle.std.proofs.lemmas.List.Concat.{flat_map-append}
 use Rattle.std.proofs.lemmas.List.Elements.{recursion_from_All}
 use Rattle.csv.specs.Writing.{default_writer, row_text}
@@ -19,7 +18,6 @@ use Rattle.crp_yard.proofs.BuildingSteps.{take_next}
 use Rattle.crp_yard.proofs.YardSteps.{fit_rows, low_stacks}
 use Rattle.crp_said.specs.declared.numbers.Numbers.{Numbers}
 use Rattle.crp_said.specs.declared.moves.SaidMove.{SaidMove}
-use Rattle.crp_follow.specs.declared.followed.FollowedBay.{FollowedBay}
 use Rattle.crp_follow.specs.declared.fault.FollowFault.{FollowFault}
 use Rattle.crp_follow.specs.declared.fault.FollowFault.TheVariants as fault
 use Rattle.crp_follow.specs.declared.stated.StatedMove.{StatedMove}
@@ -29,56 +27,9 @@ use Rattle.crp_follow.specs.Faults.{rows_in, LeadsIn}
 use Rattle.crp_follow.specs.Followed.{BayFollowed, AreFollowed, IsFollowed}
 use Rattle.crp_follow.specs.MoveFaults.{StopsWith}
 use Rattle.crp_follow.specs.Behind.{Made, first_moves, made_in, IsBayBehind, AreBaysBehind, IsListBehind}
-use Rattle.crp_follow.specs.Views.{bay_followed}
 use Rattle.crp_follow.proofs.InYard.{Fits, bay_at, found}
 use Rattle.crp_follow.proofs.KeptLaws.{stays_within_heights}
 use Rattle.crp_follow.proofs.OneMove.{stops_apart}
-
--- ---- the moves of a bay
-
--- what is made in a bay that is not the next one is made by the later ones
-pub looks_on : (bays : List FollowedBay) (counts : List ℕ) (i : ℕ) (d : FollowedBay) (name : YardBay) (whole : List SaidMove) → i < length bays → i < length counts
-    → made_in (first_moves (drop i counts) (map bay_followed (drop i bays))) name ≡ whole
-    → (if same_bay (get_or bays i d).stated.bay name then take (get_or counts i 0) (moves_of (get_or bays i d).stated.moves.items)
-    else made_in (first_moves (drop (i + 1) counts) (map bay_followed (drop (i + 1) bays))) name) ≡ whole
-looks_on bays counts i d name whole in-bays in-counts before =
-    let count = get_or counts i 0 in
-    ap (λ l. made_in (first_moves (count ∷ drop (i + 1) counts) (map bay_followed l)) name) (sym (drop_more bays i d in-bays))
-    ∙ ap (λ l. made_in (first_moves l (map bay_followed (drop i bays))) name) (sym (drop_more counts i 0 in-counts)) ∙ before
-
-none_of_no_bays : (counts : List ℕ) (name : YardBay) → made_in (first_moves counts []) name ≡ []
-none_of_no_bays [] name = refl
-none_of_no_bays (n ∷ counts) name = refl
-
-past_all : {X : Type 0} (xs : List X) (i : ℕ) → length xs ≤ i → drop i xs ≡ []
-past_all [] zero le = refl
-past_all [] (suc i) le = refl
-past_all (x ∷ xs) zero le = absurd (omega arith)
-past_all (x ∷ xs) (suc i) le = past_all xs i (omega arith)
-
--- none are left where no bays are, or no counts
-pub none_left : (bays : List FollowedBay) (counts : List ℕ) (i : ℕ) (name : YardBay) → min (length bays) (length counts) ≤ i → made_in (first_moves (drop i counts) (map bay_followed (drop i bays))) name ≡ []
-none_left bays counts i name past = by (nat_le (length bays) i) refl
-  where
-    by : (b : Bool) → nat_le (length bays) i ≡ b → made_in (first_moves (drop i counts) (map bay_followed (drop i bays))) name ≡ []
-    by true e =
-        let all : length bays ≤ i = leb-true (length bays) i e in
-        ap (λ l. made_in (first_moves (drop i counts) (map bay_followed l)) name) (past_all bays i all) ∙ none_of_no_bays (drop i counts) name
-    by false e =
-        let some : i < length bays = leb-false (length bays) i e in
-        let all : length counts ≤ i = omega arith in
-        ap (λ l. made_in (first_moves l (map bay_followed (drop i bays))) name) (past_all counts i all)
-
--- the bay that is found has the moves
-pub found_moves : (b : FollowedBay) (count : ℕ) (name : YardBay) (moves : List StatedMove) (later whole : List SaidMove) → moves ≡ take count b.stated.moves.items → same_bay b.stated.bay name ≡ true
-    → (if same_bay b.stated.bay name then take count (moves_of b.stated.moves.items) else later) ≡ whole → moves_of moves ≡ whole
-found_moves b count name moves later whole e same is =
-    ap moves_of e ∙ sym (take-map (λ (m : StatedMove). m.said) count b.stated.moves.items) ∙ sym (ap (λ t. if t then take count (moves_of b.stated.moves.items) else later) same) ∙ is
-
--- and another has not
-pub other_moves : (b : FollowedBay) (count : ℕ) (name : YardBay) (later whole : List SaidMove) → same_bay b.stated.bay name ≡ false
-    → (if same_bay b.stated.bay name then take count (moves_of b.stated.moves.items) else later) ≡ whole → later ≡ whole
-other_moves b count name later whole other is = sym (ap (λ t. if t then take count (moves_of b.stated.moves.items) else later) other) ∙ is
 
 -- ---- moves that can be made
 

@@ -1,11 +1,11 @@
 -- One bay more that is followed, and what is wrong with the next.
 use Rattle.std.proofs.Common.{◌≡◌, ◌∙◌, ◌⊎◌, inl, inr, false, List, [], ◌∷◌, ◌++◌, map, refl, sym, ap, subst}
-use Rattle.std.specs.List.{AllByRecursion, IsDistinct}
+use Rattle.std.specs.List.{AllByRecursion, IsDistinct, list_any}
 use Rattle.std.proofs.lemmas.List.{map-append}
 use Rattle.std.specs.Vec.Iter.{into_iter_items, into_iter_steps}
 use Rattle.std.specs.Iterator.{Yields}
 use Rattle.std.specs.declared.vec.IntoIter.{IntoIter}
-use Rattle.crp_plan.specs.BayNames.{same_bay}
+use Rattle.crp_plan.specs.BayNames.{YardBay, same_bay}
 use Rattle.crp_yard.specs.Inventory.{Inventory}
 use Rattle.crp_follow.specs.declared.stated.StatedBay.{StatedBay}
 use Rattle.crp_follow.specs.declared.followed.FollowedBay.{FollowedBay}
@@ -17,6 +17,7 @@ use Rattle.crp_follow.specs.Followed.{BayFollowed, AreFollowed}
 use Rattle.crp_follow.specs.Table.{StandFew}
 use Rattle.crp_follow.specs.Views.{bay_stated, bay_followed}
 use Rattle.crp_follow.proofs.Cuts.{all_both}
+use Rattle.crp_follow.proofs.Named.{named_among}
 use Rattle.crp_follow.proofs.OneBay.{Followable, named_more, each_followed}
 
 none_apart : IsDistinct same_bay []
@@ -50,6 +51,22 @@ one_bay_more yard stated followed new s b so same fresh leads longer =
       leads = subst (AllByRecursion P) (sym both)
           (all_both P (map bay_followed followed) (bay_followed b ∷ []) so.leads (subst (λ (x : BayStated). LeadsIn yard x b.start.items b.after.items) (sym same) leads, tt));
     }
+
+pub no_names : (bays : List FollowedBay) (names : List YardBay) → bays ≡ [] → names ≡ [] → names ≡ map (λ (b : BayStated). b.bay) (before_are bays)
+no_names bays names e none = none ∙ sym (ap (λ l. map (λ (b : BayStated). b.bay) (before_are l)) e)
+
+-- one name more
+pub name_more : (bays longer : List FollowedBay) (b : FollowedBay) (names new : List YardBay) → names ≡ map (λ (b : BayStated). b.bay) (before_are bays) → longer ≡ bays ++ b ∷ []
+    → new ≡ names ++ b.stated.bay ∷ [] → new ≡ map (λ (b : BayStated). b.bay) (before_are longer)
+name_more bays longer b names new e more is =
+    is ∙ ap (λ l. l ++ b.stated.bay ∷ []) e ∙ sym (map-append (λ (b : BayStated). b.bay) (before_are bays) (bay_stated b.stated ∷ []))
+    ∙ ap (map (λ (b : BayStated). b.bay)) (sym (ap before_are more ∙ map-append (λ (b : FollowedBay). bay_stated b.stated) bays (b ∷ [])))
+
+-- and it is none of those before
+pub fresh_name : (before : List BayStated) (s : StatedBay) (b : FollowedBay) (names : List YardBay) → bay_stated b.stated ≡ bay_stated s → is_named before s.bay ≡ false
+    → names ≡ map (λ (b : BayStated). b.bay) before → list_any (same_bay b.stated.bay) names ≡ false
+fresh_name before s b names same fresh e =
+    ap (λ (x : BayStated). list_any (same_bay x.bay) names) same ∙ named_among before s.bay names e ∙ fresh
 
 pub bay_refused : (yard : Inventory) (bays before later : List StatedBay) (followed : List FollowedBay) (s : StatedBay) (f : FollowFault) → AreFollowed yard (map bay_stated before) (map bay_followed followed)
     → bays ≡ before ++ s ∷ later → (f ≡ fault.Memory) ⊎ IsBayFault yard (before_are followed) (bay_stated s) f → (f ≡ fault.Memory) ⊎ IsBaysFault yard (map bay_stated bays) f

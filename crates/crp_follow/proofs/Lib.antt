@@ -10,6 +10,7 @@ mod Written
 mod LinesStand
 mod Outcomes
 mod InYard
+mod Named
 mod MoveSteps
 mod FollowSteps
 pub mod Few

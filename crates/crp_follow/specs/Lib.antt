@@ -11,5 +11,6 @@ pub mod Rewritten
 pub mod Behind
 pub mod Kept
 pub mod Table
+pub mod Summary
 pub mod Stopping
 pub mod Views

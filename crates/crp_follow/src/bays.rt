@@ -1,32 +1,50 @@
 //! Bays of a yard, and what a report states of them.
-ghost use Rattle.std.specs.Prelude.{◌≡◌, ◌<◌, ◌≤◌, ◌↔◌, Some, None, length, map, slice_get, option_map, count_by, IfOk, IfSome, IfNone, IsTrue};
+ghost use Rattle.std.specs.Prelude.{◌≡◌, ◌<◌, ◌≤◌, ◌↔◌, ◌++◌, ◌∷◌, [], false, List, Some, None, length, map, slice_get, option_map, count_by, IfOk, OnOk, IfSome, IfNone, IsTrue};
+ghost use Rattle.std.specs.List.{list_any};
+ghost use Rattle.crp_plan.specs.BayNames.{same_bay};
 ghost use Rattle.crp_sizes.specs.Sizes.{heights_at};
 ghost use Rattle.crp_yard.specs.Inventory.{heights_in_bay};
 ghost use Rattle.crp_follow.specs.Faults.{rows_in, is_named, is_shift, CountsShifts};
-ghost use Rattle.crp_follow.specs.Stated.{moves_of};
+ghost use Rattle.crp_follow.specs.Stated.{BayStated, moves_of};
 ghost use Rattle.crp_follow.specs.Views.{bay_stated};
 
-use crate::followed::FollowedBay;
 use crate::pushing::add;
 use crate::row::Row;
 use crate::stated::{StatedBay, StatedMove};
 use crp_plan::BayName;
 use crp_said::SaidMove;
 use crp_yard::Yard;
+use indexmap::IndexSet;
 use std::alloc::{AllocError, Global};
 
-/// The number of the bay of this name, from 0, if the yard has one.
-pub(crate) fn find(yard: &Yard, bay: &BayName) -> Option<usize>
+/// Adds the name of a bay behind names, where it is none of them.
+pub(crate) fn add_name(names: &mut IndexSet<BayName>, bay: &BayName) -> Result<(), AllocError>
+    requires { list_any (same_bay bay.now) names.old.keys ≡ false }
+    ensures { OnOk result (names.new.keys ≡ names.old.keys ++ bay.now ∷ []) }
+{
+    names.insert(bay.copy())?;
+    Ok(())
+}
+
+/// The names of the bays of a yard, in their order.
+pub(crate) fn names_of_yard(alloc: Global, yard: &Yard) -> Result<IndexSet<BayName>, AllocError>
+    ensures { IfOk result (λ names. names.keys ≡ map (λ b. b.0) yard.now.bays) }
+{
+    let mut names = IndexSet::new(alloc);
+    for i in 0..yard.count() {
+        add_name(&mut names, yard.name(i))?;
+    }
+    Ok(names)
+}
+
+/// The number of the bay of this name, from 0, if the yard has one. The names are those of its bays.
+pub(crate) fn find(yard: &Yard, names: &IndexSet<BayName>, bay: &BayName) -> Option<usize>
+    requires { names.now.keys ≡ map (λ b. b.0) yard.now.bays }
     ensures there { IfSome result (λ i. (i < length yard.now.bays) × (heights_in_bay yard.now i ≡ Some (heights_at yard.now.sizes bay.now))
         × (rows_in yard.now bay.now ≡ option_map (λ b. b.1) (slice_get yard.now.bays i))) }
     ensures none { IfNone result (rows_in yard.now bay.now ≡ None) }
 {
-    for i in 0..yard.count() {
-        if bay == yard.name(i) {
-            return Some(i);
-        }
-    }
-    None
+    names.get_index_of(bay)
 }
 
 /// What stands in the rows of a bay.
@@ -43,16 +61,11 @@ pub(crate) fn rows_of(alloc: Global, yard: &Yard, bay: usize) -> Result<Vec<Row>
     Ok(rows)
 }
 
-/// Whether one of the bays has this name.
-pub(crate) fn is_named(before: &[FollowedBay], bay: &BayName) -> bool
-    ensures { result ≡ is_named (map (λ b. bay_stated b.stated) before.now) bay.now }
+/// Whether one of the bays has this name, where these are their names.
+pub(crate) fn is_named(names: &IndexSet<BayName>, bay: &BayName) -> bool
+    ensures { (bays : List BayStated) → names.now.keys ≡ map (λ b. b.bay) bays → result ≡ is_named bays bay.now }
 {
-    for followed in before {
-        if followed.stated.bay == *bay {
-            return true;
-        }
-    }
-    false
+    names.contains(bay)
 }
 
 /// How many of the moves are relocations.

@@ -1,5 +1,7 @@
 //! The yard as it stands when moves of a report were made.
 ghost use Rattle.std.specs.Prelude.{◌≡◌, ◌++◌, ◌<◌, ◌≤◌, ℕ, List, All, map, take, length, slice_get, IfOk, IfSome};
+ghost use Rattle.std.specs.List.{IsDistinct};
+ghost use Rattle.crp_plan.specs.BayNames.{same_bay};
 ghost use Rattle.crp_sizes.specs.Sizes.{heights_at};
 ghost use Rattle.crp_yard.specs.Text.{records_of_rows, text_of_records};
 ghost use Rattle.crp_follow.specs.Crane.{Stack, Leads};
@@ -8,7 +10,7 @@ ghost use Rattle.crp_follow.specs.Followed.{IsFollowed};
 ghost use Rattle.crp_follow.specs.Behind.{first_moves, all_moves, made_in, IsListBehind};
 ghost use Rattle.crp_follow.specs.Views.{bay_followed};
 
-use crate::bays::rows_of;
+use crate::bays::{add_name, rows_of};
 use crate::fault::FollowFault;
 use crate::followed::{Followed, FollowedBay};
 use crate::moving::make_moves;
@@ -16,6 +18,7 @@ use crate::row::Row;
 use crate::stated::StatedMove;
 use crp_plan::BayName;
 use crp_yard::{Yard, YardList};
+use indexmap::IndexSet;
 use std::alloc::{AllocError, Global};
 
 /// How many moves each bay of a report has.
@@ -39,17 +42,36 @@ fn first_of(moves: &[StatedMove], count: usize) -> &[StatedMove]
     }
 }
 
-// Those of the first moves of each bay, as many as are counted, that are made in the bay of this name.
-fn made_in<'a>(bays: &'a [FollowedBay], counts: &[usize], name: &BayName) -> &'a [StatedMove]
+// The names of bays that are followed, in their order.
+fn names_of(alloc: Global, bays: &[FollowedBay]) -> Result<IndexSet<BayName>, AllocError>
+    requires { IsDistinct same_bay (map (λ b. b.stated.bay) bays.now) }
+    ensures { IfOk result (λ names. names.keys ≡ map (λ b. b.stated.bay) bays.now) }
+{
+    let mut names = IndexSet::new(alloc);
+    for bay in bays {
+        add_name(&mut names, &bay.stated.bay)?;
+    }
+    Ok(names)
+}
+
+// Those of the first moves of each bay, as many as are counted, that are made in the bay of this name. The names are those of the bays.
+fn made_in<'a>(
+    bays: &'a [FollowedBay],
+    names: &IndexSet<BayName>,
+    counts: &[usize],
+    name: &BayName,
+) -> &'a [StatedMove]
+    requires { names.now.keys ≡ map (λ b. b.stated.bay) bays.now }
     ensures { moves_of result.now ≡ made_in (first_moves counts.now (map bay_followed bays.now)) name.now }
 {
-    for i in 0..bays.len().min(counts.len()) {
-        if bays[i].stated.bay == *name {
-            return first_of(&bays[i].stated.moves, counts[i]);
-        }
-    }
     let none: &[StatedMove] = &[];
-    none
+    let Some(i) = names.get_index_of(name) else {
+        return none;
+    };
+    match counts.get(i) {
+        Some(count) => first_of(&bays[i].stated.moves, *count),
+        None => none,
+    }
 }
 
 // The fault of moves that can be made: no memory is left.
@@ -103,10 +125,11 @@ pub fn list_behind(
     requires { (report : List ℕ) × IsFollowed yard.now report followed.now.numbers (map bay_followed followed.now.bays.items) }
     ensures { IfOk result (λ text. IsListBehind yard.now (first_moves counts.now (map bay_followed followed.now.bays.items)) text.items) }
 {
+    let names = names_of(alloc, &followed.bays)?;
     let mut list = YardList::new(alloc)?;
     for i in 0..yard.count() {
         let name = yard.name(i);
-        let moves = made_in(&followed.bays, counts, name);
+        let moves = made_in(&followed.bays, &names, counts, name);
         let rows = rows_behind(alloc, yard, i, moves)?;
         list = push_rows(list, name, &rows)?;
     }

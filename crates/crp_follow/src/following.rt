@@ -5,35 +5,40 @@ ghost use Rattle.crp_said.specs.declared.numbers.Numbers.{Numbers as Counts};
 ghost use Rattle.crp_follow.specs.declared.fault.FollowFault.{FollowFault as Fault};
 ghost use Rattle.crp_follow.specs.Faults.{is_named, LeadsIn, IsBayFault, IsBaysFault, IsFirstFault};
 ghost use Rattle.crp_follow.specs.Followed.{BayFollowed, IsFollowed, AreFollowed};
+ghost use Rattle.crp_follow.specs.Stated.{BayStated};
 ghost use Rattle.crp_follow.specs.Table.{StandFew};
 ghost use Rattle.crp_follow.specs.Views.{bay_stated, bay_followed};
 
-use crate::bays::{counts_shifts, find, is_named, rows_of};
+use crate::bays::{add_name, counts_shifts, find, is_named, names_of_yard, rows_of};
 use crate::fault::FollowFault;
 use crate::followed::{Followed, FollowedBay};
 use crate::moving::make_moves;
 use crate::pushing::add;
 use crate::stated::StatedBay;
 use crate::stating::state;
+use crp_plan::BayName;
 use crp_yard::Yard;
+use indexmap::IndexSet;
 use std::alloc::Global;
 
-/// Follows the moves of a bay that stands behind these.
+/// Follows the moves of a bay that stands behind bays of these names. The others are those of the bays of the yard.
 fn follow_bay(
     alloc: Global,
     yard: &Yard,
-    before: &[FollowedBay],
+    names: &IndexSet<BayName>,
+    before: &IndexSet<BayName>,
     stated: StatedBay,
 ) -> Result<FollowedBay, FollowFault>
+    requires { names.now.keys ≡ map (λ b. b.0) yard.now.bays }
     ensures same { IfOk result (λ bay. bay_stated bay.stated ≡ bay_stated stated) }
-    ensures fresh { IfOk result (λ bay. is_named (map (λ b. bay_stated b.stated) before.now) stated.bay ≡ false) }
+    ensures fresh { (bays : List BayStated) → before.now.keys ≡ map (λ b. b.bay) bays → IfOk result (λ bay. is_named bays stated.bay ≡ false) }
     ensures leads { IfOk result (λ bay. LeadsIn yard.now (bay_stated stated) bay.start.items bay.after.items) }
     ensures few { IfOk result (λ bay. StandFew (bay_followed bay)) }
-    ensures wrong { IfErr result (λ fault. (fault ≡ FollowFault.Memory)
-        ⊎ IsBayFault yard.now (map (λ b. bay_stated b.stated) before.now) (bay_stated stated) fault) }
+    ensures wrong { (bays : List BayStated) → before.now.keys ≡ map (λ b. b.bay) bays
+        → IfErr result (λ fault. (fault ≡ FollowFault.Memory) ⊎ IsBayFault yard.now bays (bay_stated stated) fault) }
 {
     let line = stated.line;
-    let Some(bay) = find(yard, &stated.bay) else {
+    let Some(bay) = find(yard, names, &stated.bay) else {
         return Err(FollowFault::NoBay { line });
     };
     if is_named(before, &stated.bay) {
@@ -62,9 +67,12 @@ fn follow_bays(
     ensures few { IfOk result (λ followed. AllByRecursion StandFew (map bay_followed followed.items)) }
     ensures wrong { IfErr result (λ fault. (fault ≡ FollowFault.Memory) ⊎ IsBaysFault yard.now (map bay_stated bays.items) fault) }
 {
+    let names = names_of_yard(alloc, yard)?;
+    let mut before = IndexSet::new(alloc);
     let mut followed = Vec::new(alloc);
     for stated in bays {
-        let bay = follow_bay(alloc, yard, &followed, stated)?;
+        let bay = follow_bay(alloc, yard, &names, &before, stated)?;
+        add_name(&mut before, &bay.stated.bay)?;
         add(&mut followed, bay)?;
     }
     Ok(followed)

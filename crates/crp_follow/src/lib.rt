@@ -3,7 +3,7 @@
 //! `follow` says where the moves of each bay lead, or the first fault. What a crane can do is said in `specs/Crane.antt`, what the lines of a
 //! report are, whichever editor wrote it, in `specs/Lines.antt`, what it states line by line in `specs/Stated.antt`, what a report is that
 //! is followed in `specs/Followed.antt`, and why one is not in `specs/TextFaults.antt` and `specs/Faults.antt`. `write_table` writes the
-//! table of the moves, which `specs/Table.antt` defines, and `list_behind` the list of the yard as it stands when moves were made
+//! table of the moves, which `specs/Table.antt` defines, `summary_text` is the table of the bays (`specs/Summary.antt`), and `list_behind` the list of the yard as it stands when moves were made
 //! (`specs/Behind.antt`). `rewrite` gives a report whose moves were edited with lines that count them (`specs/Rewritten.antt`).
 #![tactic(auto)]
 
@@ -22,6 +22,7 @@ mod row;
 mod stated;
 mod stating;
 mod stopping;
+mod summary;
 mod table;
 mod taking;
 
@@ -41,4 +42,6 @@ pub use row::Row;
 pub use stated::{StatedBay, StatedMove};
 pub use stating::MAX_BYTES;
 pub use stopping::{Stopping, stopping_at_line};
+pub use summary::summary_text;
 pub use table::{Table, number_field, table_text, write_table};
+pub use taking::{Taken, leaves_at, takes_of};

@@ -4,7 +4,7 @@ ghost use Rattle.crp_follow.specs.declared.stated.StatedMove.{StatedMove as Move
 ghost use Rattle.crp_follow.specs.Stopping.{StandsBefore, StandsInBay};
 ghost use Rattle.crp_follow.specs.Views.{bay_stated};
 
-use crate::bays::{find, rows_of};
+use crate::bays::{find, names_of_yard, rows_of};
 use crate::moving::make_moves;
 use crate::row::Row;
 use crate::stated::{StatedBay, StatedMove};
@@ -66,7 +66,10 @@ fn stopping_at(
     requires { (m : Move) × (slice_get stated.now.moves.items step ≡ Some m) × (m.line ≡ line) }
     ensures { IfSome result (λ s. StandsInBay yard.now (bay_stated stated.now) line s.said s.heights.items s.rows.items) }
 {
-    let bay = find(yard, &stated.bay)?;
+    let Ok(names) = names_of_yard(alloc, yard) else {
+        return None;
+    };
+    let bay = find(yard, &names, &stated.bay)?;
     let heights = yard.heights(bay);
     let Ok(mut rows) = rows_of(alloc, yard, bay) else {
         return None;

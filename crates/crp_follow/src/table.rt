@@ -1,5 +1,5 @@
 //! The table of the moves.
-ghost use Rattle.std.specs.Prelude.{◌≡◌, ◌++◌, map, option_map, IfOk, OnOk, IsErrOf};
+ghost use Rattle.std.specs.Prelude.{◌≡◌, ◌++◌, [], map, option_map, IfOk, OnOk, IsErrOf};
 ghost use Rattle.std.specs.List.{AllByRecursion};
 ghost use Rattle.std.specs.Io.KnownBytes.{Appends};
 ghost use Rattle.crp_plan.specs.Devices.{AppendsPart, TransfersAlone};
@@ -94,13 +94,19 @@ impl Model for Table {
 }
 
 impl Table {
+    /// A table without a record.
+    pub(crate) fn empty(alloc: Global) -> Table
+        ensures { result ≡ [] }
+    {
+        Table {
+            writer: WriterBuilder::new().from_writer(Vec::new(alloc)),
+        }
+    }
+
     /// A table with the header of the table of the moves, and with columns of these names behind its own.
     pub fn new(alloc: Global, more: &[&[u8]]) -> Result<Table, AllocError>
         ensures { IfOk result (λ table. table ≡ record_text (header ++ map (λ name. name.now) more.now)) }
     {
-        let table = Table {
-            writer: WriterBuilder::new().from_writer(Vec::new(alloc)),
-        };
         let header: [&[u8]; 12] = [
             b"block",
             b"bay",
@@ -115,7 +121,7 @@ impl Table {
             b"for",
             b"left",
         ];
-        table.push_record(alloc, header.as_slice(), more)
+        Table::empty(alloc).push_record(alloc, header.as_slice(), more)
     }
 
     /// The table and the record of a move, with these fields behind its own.
@@ -154,7 +160,7 @@ impl Table {
     }
 
     /// The table and the record of these fields, and of others behind them.
-    fn push_record<'a>(
+    pub(crate) fn push_record<'a>(
         self,
         alloc: Global,
         fields: &[&'a [u8]],

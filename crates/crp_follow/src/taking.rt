@@ -11,16 +11,13 @@ use std::alloc::{AllocError, Global};
 
 /// A container that leaves its bay, and the step at which it does, from 1.
 #[derive(Clone, Copy)]
-pub(crate) struct Taken<'a> {
+pub struct Taken<'a> {
     pub step: u64,
     pub container: &'a Container,
 }
 
 /// The containers that leave, each with its step.
-pub(crate) fn takes_of<'a>(
-    alloc: Global,
-    moves: &'a [StatedMove],
-) -> Result<Vec<Taken<'a>>, AllocError>
+pub fn takes_of<'a>(alloc: Global, moves: &'a [StatedMove]) -> Result<Vec<Taken<'a>>, AllocError>
     ensures { IfOk result (λ takes. map taken_as takes.items ≡ takes_from 1 (moves_of moves.now)) }
 {
     let mut takes = Vec::new(alloc);
@@ -37,7 +34,7 @@ pub(crate) fn takes_of<'a>(
 }
 
 /// The step at which the container leaves, if it does.
-pub(crate) fn leaves_at(takes: &[Taken], container: &[u8]) -> Option<u64>
+pub fn leaves_at(takes: &[Taken], container: &[u8]) -> Option<u64>
     ensures { result ≡ leaves_at (map taken_as takes.now) container.now }
 {
     for taken in takes {

@@ -22,8 +22,10 @@ pub struct Key {
 pub struct KeyedView {
     /// What the words are about.
     pub key: Key,
-    /// What the seat knows, and what it did.
+    /// What the seat knows, and what it did. Of the claims that are lent to it none counts as granted here.
     pub view: View,
+    /// How many claims are lent to it, for it to spend alone.
+    pub loan: u64,
 }
 
 /// What the table is given once, as it is made.
@@ -65,16 +67,34 @@ impl Play<(), KeyedView> for Offers {
     ghost then = { OfferedUnder };
 }
 
-/// One more is claimed.
-pub(crate) struct Claims;
+/// One claim is granted, and more are lent.
+pub(crate) struct Takes;
 
-impl Play<(), KeyedView> for Claims {
-    ghost use Rattle.crp_incumbent.specs.Steps.{ClaimedUnder};
+impl Play<(), KeyedView> for Takes {
+    ghost use Rattle.crp_incumbent.specs.Steps.{TookUnder};
 
-    ghost then = { ClaimedUnder };
+    ghost then = { TookUnder };
 }
 
-/// A load that changes no view, and says that no seat has more than all shares.
+/// Of the claims that were lent some are granted, and the rest is open again.
+pub(crate) struct Settles;
+
+impl Play<(), KeyedView> for Settles {
+    ghost use Rattle.crp_incumbent.specs.Steps.{Settled};
+
+    ghost then = { Settled };
+}
+
+/// A load by which one claim is refused, if no claim is open.
+pub(crate) struct Refuses;
+
+impl Play<(), KeyedView> for Refuses {
+    ghost use Rattle.crp_incumbent.specs.Steps.{RefusedUnder};
+
+    ghost then = { RefusedUnder };
+}
+
+/// A load that changes no view, and says that no seat has more than all shares, nor a greater loan than the word counts.
 pub(crate) struct Looks;
 
 impl Play<(), KeyedView> for Looks {

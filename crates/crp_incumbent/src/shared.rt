@@ -1,10 +1,12 @@
-//! The limit and the number of claims, and the steps on them.
-ghost use Rattle.std.specs.Prelude.{◌≡◌, ◌+◌, ◌<◌, ◌≤◌, ◌⊎◌, ◌↔◌, false, min, length, IfOk, IfErr, IsErr};
+//! The limit and the claims, and the steps on them.
+ghost use Rattle.std.specs.Prelude.{◌≡◌, ◌+◌, ◌<◌, ◌≤◌, ◌⊎◌, ◌↔◌, false, min, length, IfOk, IfErr, IsErr, IfSome, IfNone, Some};
 ghost use Rattle.crp_plan.specs.Running.{words, after_see};
-ghost use Rattle.crp_incumbent.specs.Rule.{all_shares, first_view, most_budget, view_kept, view_given, view_joined};
+ghost use Rattle.crp_incumbent.specs.Rule.{all_shares, first_view, most_budget, one_open, view_kept, view_given, view_joined, IsBatch};
 ghost use Rattle.crp_incumbent.specs.Seats.{with_view, FindsLimit, OffersCount, ClaimsOne};
 
-use crate::rule::{Claims, Keeping, KeyedView, Looks, Offers, Opening, Sees, Shares};
+use crate::rule::{
+    Keeping, KeyedView, Looks, Offers, Opening, Refuses, Sees, Settles, Shares, Takes,
+};
 use crate::seat::{Seat, SplitRefused, Why};
 use atomic_table::Table;
 use crp_plan::{Plan, Problem};
@@ -12,21 +14,30 @@ use std::alloc::{AllocError, Global};
 use std::marker::Model;
 use std::snapshot::Snapshot;
 
-/// The words of the table. Only two of them are used, 128 bytes apart and with 120 behind the second: all workers load the limit at
-/// each node, and one writes the claims at each expansion. Processors fetch cache lines of 64 bytes in pairs, so lines that are only
-/// next to each other would be written together.
-const WORDS: usize = 32;
+/// The words of the table. Only two of them are used, and 120 bytes at least on each side of them are not: all workers load the limit at
+/// each node, and each writes the claims once a batch. Processors fetch cache lines of 64 bytes in pairs, so lines that are only next to
+/// each other would be written together.
+const WORDS: usize = 48;
 
-/// The word with the number of claims. It is the first, which a split or a join loads.
-const SPENT: usize = 0;
+/// The word of the claims.
+const CLAIMS: usize = 16;
 
 /// The word with the limit.
-const LIMIT: usize = 16;
+const LIMIT: usize = 32;
+
+/// The word of the claims counts those that are open in multiples of this, and below it those of them that are lent.
+const OPEN: u64 = 1 << 20;
+
+/// The most claims that a seat takes at once.
+const BATCH: u64 = 256;
+
+/// A seat takes one of so many parts of what it may take, so that batches are small where few claims are left.
+const PARTS: u64 = 512;
 
 /// The shares of all seats together.
 const SHARES: u64 = 65;
 
-/// The running limit and the number of claims. Any thread may step on them with a seat, and no call waits.
+/// The running limit and the claims. Any thread may step on them with a seat, and no call waits.
 #[derive(Drop)]
 pub struct Shared {
     table: Table<(), KeyedView, Opening, Keeping, Global>,
@@ -78,6 +89,7 @@ impl Shared {
             timed,
         };
         let mut words = [0; WORDS];
+        words[CLAIMS] = budget * OPEN;
         words[LIMIT] = start;
         let (table, token) = Table::of_words(alloc, &words, &opening)?;
         Ok((
@@ -86,6 +98,8 @@ impl Shared {
                 token,
                 share: SHARES,
                 refused: 0,
+                loan: 0,
+                used: 0,
             },
         ))
     }
@@ -112,10 +126,14 @@ impl Shared {
     }
 
     /// Claims one expansion, and answers whether it was granted. A seat that was refused once makes no step.
-    pub fn claim(&self, mut seat: Seat) -> (bool, Seat)
+    ///
+    /// Nothing happens, and there is no answer yet, where another seat was faster, or where all that is left of the budget is lent to
+    /// others: the claim is to be made again, once these have claimed more or were settled.
+    pub fn claim(&self, mut seat: Seat) -> (Option<bool>, Seat)
         requires { seat.of ≡ self.now }
-        ensures step { seat.view.refused ≡ 0 → ClaimsOne seat result.0 result.1 }
-        ensures refused { 0 < seat.view.refused → (result.0 ≡ false) × (result.1 ≡ seat) }
+        ensures step { seat.view.refused ≡ 0 → IfSome result.0 (λ granted. ClaimsOne seat granted result.1) }
+        ensures none { IfNone result.0 (result.1 ≡ seat) }
+        ensures refused { 0 < seat.view.refused → (result.0 ≡ Some false) × (result.1 ≡ seat) }
     {
         let granted = seat.claim(self);
         (granted, seat)
@@ -141,6 +159,8 @@ impl Shared {
             token,
             share: 1,
             refused: 0,
+            loan: 0,
+            used: 0,
         };
         Ok((seat, other))
     }
@@ -155,17 +175,23 @@ impl Shared {
             token,
             share,
             refused,
+            loan,
+            used,
         } = other;
         self.table
             .shared
             .join_seat::<Shares>(&mut seat.token, token);
-        let Some(sum) = seat.share.checked_add(share) else {
-            // Never: no seat has more than all shares, as this load shows.
-            self.table.shared.load::<Looks>(&mut seat.token, SPENT);
+        let sum = seat.share.checked_add(share);
+        let loan = seat.loan + loan;
+        let (Some(share), true) = (sum, loan < OPEN) else {
+            // Never: no seat has more than all shares, nor a greater loan than the word counts, as this load shows.
+            self.table.shared.load::<Looks>(&mut seat.token, CLAIMS);
             unreachable!()
         };
-        seat.share = sum;
+        seat.share = share;
         seat.refused += refused;
+        seat.loan = loan;
+        seat.used += used;
         seat
     }
 
@@ -180,18 +206,37 @@ impl Shared {
         ensures mine { seat.view.mine ≤ self.key.start }
         ensures over { result.spent ≤ self.key.budget + all_shares }
     {
-        let Shared { table, budget: _ } = self;
+        let Shared { table, budget } = self;
         let Seat {
             token,
             share: _,
-            refused: _,
+            refused,
+            loan: _,
+            used,
         } = seat;
         let closed = table.close_with(token);
         let limit = closed.word(LIMIT);
-        let spent = closed.word(SPENT);
+        let open = closed.word(CLAIMS) / OPEN;
         closed.free();
-        Totals { limit, spent }
+        Totals {
+            limit,
+            spent: budget - open + used + refused,
+        }
     }
+}
+
+/// How many claims a seat takes to spend them alone, beside the one that it makes, where the word of the claims is this and so many are
+/// lent to it already; none where no claim is left but what is lent.
+fn more_of(claims: u64, loan: u64) -> Option<u64>
+    requires { loan < one_open }
+    ensures { IfSome result (λ more. IsBatch claims loan more) }
+{
+    let (open, lent) = (claims / OPEN, claims % OPEN);
+    if open <= lent {
+        return None;
+    }
+    let most = OPEN - 1 - lent.max(loan);
+    Some(((open - lent) / PARTS).min(BATCH - 1).min(most))
 }
 
 impl Seat {
@@ -221,22 +266,62 @@ impl Seat {
 
     /// Claims one expansion, as `Shared::claim` does.
     #[inline]
-    pub fn claim(&mut self, shared: &Shared) -> bool
+    pub fn claim(&mut self, shared: &Shared) -> Option<bool>
         requires { self.old.of ≡ shared.now }
-        ensures step { self.old.view.refused ≡ 0 → ClaimsOne self.old result self.new }
-        ensures refused { 0 < self.old.view.refused → (result ≡ false) × (self.new ≡ self.old) }
+        ensures step { self.old.view.refused ≡ 0 → IfSome result (λ granted. ClaimsOne self.old granted self.new) }
+        ensures none { IfNone result (self.new ≡ self.old) }
+        ensures refused { 0 < self.old.view.refused → (result ≡ Some false) × (self.new ≡ self.old) }
     {
         if self.refused > 0 {
-            return false;
+            return Some(false);
         }
-        let spent = shared
+        if self.used < self.loan {
+            self.used += 1;
+            return Some(true);
+        }
+        self.settle(shared);
+        self.claim_at_table(shared)
+    }
+
+    /// Gives back what is left of the claims that are lent to this seat. Others may wait for it, so whoever claims no more for a while
+    /// calls this first.
+    pub fn settle(&mut self, shared: &Shared)
+        requires { self.old.of ≡ shared.now }
+        ensures { self.new ≡ self.old }
+    {
+        if self.loan == 0 {
+            return;
+        }
+        let settled = self.used * OPEN + self.loan;
+        shared
             .table
             .shared
-            .fetch_add::<Claims>(&mut self.token, SPENT, 1);
-        let granted = spent < shared.budget;
-        if !granted {
-            self.refused = 1;
+            .fetch_sub::<Settles>(&mut self.token, CLAIMS, settled);
+        self.loan = 0;
+        self.used = 0;
+    }
+
+    /// Claims one expansion of those that are lent to nobody, and more for this seat alone.
+    fn claim_at_table(&mut self, shared: &Shared) -> Option<bool>
+        requires of { self.old.of ≡ shared.now }
+        requires fresh { self.old.view.refused ≡ 0 }
+        ensures claimed { IfSome result (λ granted. ClaimsOne self.old granted self.new) }
+        ensures none { IfNone result (self.new ≡ self.old) }
+    {
+        let table = &shared.table.shared;
+        let claims = table.peek(CLAIMS);
+        let Some(more) = more_of(claims, self.loan) else {
+            if table.load::<Refuses>(&mut self.token, CLAIMS) == 0 {
+                self.refused = 1;
+                return Some(false);
+            }
+            return None;
+        };
+        let after = claims - OPEN + more;
+        if table.compare_exchange::<Takes>(&mut self.token, CLAIMS, claims, after) == claims {
+            self.loan += more;
+            return Some(true);
         }
-        granted
+        None
     }
 }

@@ -90,7 +90,7 @@ abbrev pub report_named : Job → Option (List ℕ)
 report_named (job.OneFile file command.Rewrite stop) = report_name file.now
 report_named (job.OneFile file command.Replay stop) = None
 report_named (job.OneFile file (command.Bound chains) stop) = None
-report_named (job.OneFile file (command.Check any_size) stop) = None
+report_named (job.OneFile file (command.Check any_size workers) stop) = None
 report_named (job.OneFile file (command.Prove search) stop) = None
 report_named (job.Absent names settings) = None
 report_named (job.Audit names settings) = Some names.report.now

@@ -22,6 +22,8 @@ pub enum FileCommand {
     Check {
         /// Whether it may have any size.
         any_size: bool,
+        /// How many workers check it, side by side.
+        workers: u32,
     },
     /// To solve the problem of a certificate's head, by this search.
     Prove(Settings),
@@ -94,6 +96,8 @@ pub struct FollowFiles<'a> {
     pub report: &'a str,
     /// Whether it may end early, without its last line.
     pub partial: bool,
+    /// Whether the table is to be that of the bays, in place of that of the moves.
+    pub summary: bool,
     /// The message, in whose order the table is to be, if there is one.
     pub movins: Option<&'a str>,
     /// What gets the page of its moves, if it is wanted.

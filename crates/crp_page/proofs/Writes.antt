@@ -1,6 +1,6 @@
 -- Texts that a sink gets one after the other.
-use Rattle.std.proofs.Common.{◌≡◌, ◌≤◌, ℕ, ◌+◌, List, [], ◌++◌, Option, length, take, sym, ap, subst, arith, append-nil, length-append, ⊎_elim}
-use Rattle.std.specs.Prelude.{Result, Ok, Err, OnOk, IsErrOf}
+use Rattle.std.proofs.Common.{◌≡◌, ◌∙◌, ◌≤◌, ℕ, ◌+◌, List, [], ◌++◌, Option, Some, None, length, take, sym, ap, subst, arith, append-nil, append_assoc, length-append, ⊎_elim}
+use Rattle.std.specs.Prelude.{Result, Ok, Err, OnOk, IsErrOf, IfSome, IfNone}
 use Rattle.std.specs.Io.KnownBytes.{Appends}
 use Rattle.std.proofs.KnownBytes.{Appends-nil, Appends-trans}
 use Rattle.std.proofs.lemmas.List.{take-append-le, take_all}
@@ -79,3 +79,38 @@ calls_all (Err f) text a b w = tt
 
 pub stopped : {T : Type 0} (r : Result T WriteFault) (f : WriteFault) (text : List ℕ) (a b : SinkNow) → Wrote r text a b → IsErrOf r f → Stops text a b f
 stopped r f text a b w is = subst (λ x. Wrote x text a b) is w
+
+-- ---- a text that is written up to here, and what follows it
+
+pub record WritesUpTo (whole rest : List ℕ) (a b : SinkNow) : Type 0 where
+  pub front : List ℕ
+  pub whole_is : whole ≡ front ++ rest
+  pub wrote : Writes front a b
+
+pub nothing_yet : (whole rest : List ℕ) (a : SinkNow) → whole ≡ rest → a.passed ≤ most_interruptions → WritesUpTo whole rest a a
+nothing_yet whole rest a is few = record { front = []; whole_is = is; wrote = writes_nothing a few }
+
+pub one_text_more : (whole rest text later : List ℕ) (a b c : SinkNow) → WritesUpTo whole rest a b → rest ≡ text ++ later → Writes text b c → WritesUpTo whole later a c
+one_text_more whole rest text later a b c so is next = record {
+  front = so.front ++ text;
+  whole_is = so.whole_is ∙ ap (λ l. so.front ++ l) is ∙ sym (append_assoc so.front text later);
+  wrote = writes_then so.front text a b c so.wrote next;
+}
+
+pub all_written : (whole rest : List ℕ) (a b : SinkNow) → WritesUpTo whole rest a b → rest ≡ [] → Writes whole a b
+all_written whole rest a b so none = writes_as (sym (so.whole_is ∙ ap (λ l. so.front ++ l) none ∙ append-nil so.front)) so.wrote
+
+-- memory runs out before the next text is made, or the next text is not written
+pub stops_here : (whole rest : List ℕ) (a b : SinkNow) → WritesUpTo whole rest a b → b.passed ≤ most_interruptions → Stops whole a b fault.Memory
+stops_here whole rest a b so few = stops_as (sym so.whole_is) (stops_behind so.front rest a b b fault.Memory so.wrote (stops_first rest b few))
+
+pub stops_next : (whole rest text later : List ℕ) (a b c : SinkNow) (f : WriteFault) → WritesUpTo whole rest a b → rest ≡ text ++ later → Stops text b c f → Stops whole a c f
+stops_next whole rest text later a b c f so is next =
+    stops_as (sym (so.whole_is ∙ ap (λ l. so.front ++ l) is)) (stops_behind so.front (text ++ later) a b c f so.wrote (stops_before text later b c f next))
+
+-- what holds of what is there, and where nothing is
+pub at_some : {A : Type 0} (P : A → Type 0) {o : Option A} {x : A} → o ≡ Some x → IfSome o P → P x
+at_some P e h = subst (λ o. IfSome o P) e h
+
+pub at_none : {A : Type 0} (P : Type 0) {o : Option A} → o ≡ None → IfNone o P → P
+at_none P e h = subst (λ o. IfNone o P) e h

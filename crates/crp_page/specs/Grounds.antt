@@ -6,13 +6,16 @@ use Rattle.crp_sizes.specs.Sizes.{YardSizes, heights_of, heights_at}
 use Rattle.crp_picture.specs.Pictures.{ground_picture}
 use Rattle.crp_page.specs.declared.grounds.Ground.{Ground}
 
--- the width of a column of the paper
-abbrev pub paper_width : ℕ → List ℕ
-paper_width rows = if nat_le rows 7 then codes "216" else codes "336"
+-- how wide a figure of so many rows is on paper, three to five in a row, and how the sheet lies: across for the widest
+abbrev pub on_paper : ℕ → List ℕ
+on_paper rows =
+    if nat_le rows 4 then codes "20%;page:tall"
+    else (if nat_le rows 6 then codes "25%;page:tall"
+    else (if nat_le rows 8 then codes "33%;page:tall" else codes "30%;page:wide"))
 
--- the sizes of a column of the screen, and of one of the paper
+-- the sizes of a column of the screen, and of a figure on paper
 abbrev pub column_sizes : ℕ → List ℕ
-column_sizes rows = codes "px;--c:" ++ (decimal (max 224 (22 + 40 * rows)) ++ (codes "px;--q:" ++ (paper_width rows ++ codes "px")))
+column_sizes rows = codes "px;--c:" ++ (decimal (max 224 (22 + 40 * rows)) ++ (codes "px;--q:" ++ on_paper rows))
 
 -- the sizes of a picture, of about a figure, and of a column, for rows of these heights
 abbrev pub sizes : List ℕ → List ℕ

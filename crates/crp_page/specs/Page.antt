@@ -1,9 +1,9 @@
 -- The page of a report that is followed over a yard.
 use Rattle.std.specs.Prelude.{ℕ, List, ◌++◌, length, None, codes}
 use Rattle.crp_yard.specs.Inventory.{Inventory}
-use Rattle.crp_said.specs.declared.numbers.Numbers.{Numbers}
 use Rattle.crp_follow.specs.Followed.{BayFollowed}
 use Rattle.crp_page.specs.declared.constants.TheConstants.{HEAD_OF_PAGE, KEY}
+use Rattle.crp_page.specs.declared.ordered.OrderNumbers.{OrderNumbers}
 use Rattle.crp_page.specs.Numbered.{numbered_text}
 use Rattle.crp_page.specs.Grounds.{sizes, hidden_ground}
 use Rattle.crp_page.specs.Summary.{paragraph, table}
@@ -18,11 +18,11 @@ abbrev pub page_key : List ℕ → List ℕ
 page_key heights = KEY.now ++ hidden_ground None heights
 
 -- what stands before the sections: the sizes and the ground are those of a bay that is not listed
-abbrev pub page_front : Inventory → Numbers → List BayFollowed → List ℕ
+abbrev pub page_front : Inventory → OrderNumbers → List BayFollowed → List ℕ
 page_front yard n bays =
     page_head yard.sizes.common ++ (paragraph (length yard.bays) n bays ++ (table bays ++ page_key yard.sizes.common))
 
 -- the page
-abbrev pub page_text : Inventory → Numbers → List BayFollowed → List ℕ
+abbrev pub page_text : Inventory → OrderNumbers → List BayFollowed → List ℕ
 page_text yard n bays =
     page_front yard n bays ++ (numbered_text (section yard.sizes) 1 bays ++ codes "</main></body></html>\n")

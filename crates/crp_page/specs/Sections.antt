@@ -88,8 +88,8 @@ own_part k (Some heights) = codes "\" style=\"" ++ (sizes heights ++ (codes "\">
 -- the head of the section with this number, of a bay with these heights of its own, or none
 abbrev pub section_head : ℕ → Option (List ℕ) → BayFollowed → List ℕ
 section_head k own b =
-    codes "<section id=\"b" ++ (decimal k ++ (own_part k own ++ (codes "<h2>" ++ (bay_title b ++ (codes "</h2><p>" ++ (verdict b.stated.said ++ (codes " &#183; "
-    ++ (moves_words b ++ codes "<a class=\"h\" href=\"#\">all bays</a></p><div>\n"))))))))
+    codes "<section id=\"b" ++ (decimal k ++ (own_part k own ++ (codes "<header><h2>" ++ (bay_title b ++ (codes "</h2><p>" ++ (verdict b.stated.said ++ (codes " &#183; "
+    ++ (moves_words b ++ codes "<a class=\"h\" href=\"#\">all bays</a></p></header><div><div>\n"))))))))
 
 -- what stands before the frames, and behind them
 abbrev pub section_front : YardSizes → ℕ → BayFollowed → List ℕ
@@ -99,7 +99,7 @@ abbrev pub end_part : Ground → BayFollowed → List ℕ
 end_part on b = if moves_in b == 0 then [] else end_figure on b
 
 abbrev pub section_end : Ground → BayFollowed → List ℕ
-section_end on b = end_part on b ++ codes "</div></section>\n"
+section_end on b = end_part on b ++ codes "</div></div></section>\n"
 
 -- the section with this number
 abbrev pub section : YardSizes → ℕ → BayFollowed → List ℕ

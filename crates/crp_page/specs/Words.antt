@@ -48,9 +48,9 @@ kind_of (First count) = codes "vo"
 kind_of NoPlan = codes "vn"
 kind_of (Between lower upper why) = codes "vb"
 
--- a verdict: the words of the report, and that they are not checked
+-- a verdict: the words of the report, and that it is the report that says so
 abbrev pub verdict : Said → List ℕ
-verdict said = codes "<span class=\"" ++ (kind_of said ++ (codes "\">" ++ (said_words said ++ codes "</span>, not checked")))
+verdict said = codes "<span class=\"" ++ (kind_of said ++ (codes "\">" ++ (said_words said ++ codes "</span>, as the report says")))
 
 -- what stands in a row
 abbrev pub stack_words : Stack → List ℕ

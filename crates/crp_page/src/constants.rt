@@ -13,7 +13,7 @@ h2{font-size:20px;margin:0}
 p{margin:0 0 8px}
 a{color:inherit}
 .h{font-size:13px;color:var(--u)}
-code{font:12px ui-monospace,Menlo,Consolas,"DejaVu Sans Mono",monospace;white-space:pre-wrap}
+code{unicode-bidi:isolate;overflow-wrap:anywhere;font:12px ui-monospace,Menlo,Consolas,"DejaVu Sans Mono",monospace;white-space:pre-wrap}
 table{border-collapse:collapse;margin:16px 0;font-variant-numeric:tabular-nums}
 th,td{padding:4px 12px;text-align:right;border-bottom:1px solid var(--r)}
 th:first-child,td:nth-child(2),th:nth-child(2){text-align:left}
@@ -27,7 +27,7 @@ ul li{display:flex;align-items:center;gap:8px}
 ul svg{width:40px;flex:none}
 section{padding-top:28px}
 section p a{margin-left:14px}
-section>div{display:grid;grid-template-columns:repeat(auto-fill,minmax(var(--c),1fr));gap:14px 20px}
+section>div>div{display:grid;grid-template-columns:repeat(auto-fill,minmax(var(--c),1fr));gap:14px 20px}
 figure{margin:0;break-inside:avoid;content-visibility:auto;contain-intrinsic-height:auto var(--h)}
 figure svg{display:block;width:100%;max-width:var(--w)}
 figcaption{font-size:13px;padding-left:16px}
@@ -49,8 +49,9 @@ path{fill:none;stroke-width:28}
 .u{stroke:var(--i)}
 .b{fill:var(--i)}
 .p{stroke:var(--d);stroke-width:18}
-@page{size:A4;margin:12mm}
-@media print{section p a{display:none}main{padding:0;max-width:none}body{font-size:12px}section{break-before:page;padding:0}figure{content-visibility:visible}main:has(section:target)>:not(:target){display:none}.s{display:none}section>div{grid-template-columns:repeat(auto-fill,minmax(var(--q),1fr));gap:10px 14px}figcaption{font-size:10.5px}code{font-size:10px}ol li::before{content:"\2610\A0"}*{-webkit-print-color-adjust:exact;print-color-adjust:exact}}
+@page{size:A4;margin:13mm 10mm 8mm;@top-left{content:"Crane moves";font:9pt sans-serif}@top-right{content:"sheet " counter(page) " of " counter(pages);font:9pt sans-serif}}
+@page wide{size:A4 landscape}
+@media print{section p a,.s{display:none}main{padding:0;max-width:none}body{font-size:12px}h1{font-size:18px}table{margin:6px 0}ul{font-size:11px;margin:4px 0;gap:2px 14px}ul svg{width:30px}th,td{padding:1px 10px}tfoot{display:table-row-group}tr,ul,figure,section,header{break-inside:avoid}main:has(section:target)>:not(:target){display:none}section{display:table;width:100%;padding:0;margin:0 0 12px}header{display:table-header-group}header h2{font-size:15px;display:inline}header p{display:inline;margin:0 0 0 10px}section>div{display:table-row-group}section>div>div{display:block;font-size:0}figure{content-visibility:visible;display:inline-block;vertical-align:top;width:var(--q);padding:6px 8px 0 0}code{font-size:9px}figcaption{font-size:9.5px;line-height:1.3;padding-left:8px}ol{columns:auto;padding-left:18px}ol li::before{content:"\2610\A0"}*{-webkit-print-color-adjust:exact;print-color-adjust:exact}}
 </style></head>"#;
 
 /// The head of the table of the bays.
@@ -60,7 +61,7 @@ pub const TABLE_HEAD: &[u8] =
 
 /// What the colours and marks of the pictures mean.
 pub const KEY: &[u8] =
-    br#"<p class="h">Each move was followed over the yard list and can be made. The verdicts are those of the report: optimal 12 says that no plan has fewer than 12 relocations. 4.5 is row 4, tier 5; tier 1 is the lowest. <span class="s">On paper each bay begins a sheet; go to a bay first to print it alone.</span></p>
+    br#"<p class="h">Each move was followed over the yard list and can be made. The verdicts are as the report says; run crp audit to check them: optimal 12 says that no plan has fewer than 12 relocations. 4.5 is row 4, tier 5; tier 1 is the lowest. <span class="s">On paper bays share a sheet where they fit; go to a bay first to print it alone.</span></p>
 <ul>
 <li><svg viewBox="18 26 40 32" aria-hidden="true"><path class="k0" d="M20 42h36"/><text class="l" x="14" y="52" textLength="40" lengthAdjust="spacingAndGlyphs"> 3161</text><text class="n" x="13" y="38" textLength="40" lengthAdjust="spacingAndGlyphs">      3</text></svg>leaves at step 3; the stronger the colour, the sooner</li>
 <li><svg viewBox="18 26 40 32" aria-hidden="true"><path class="ks" d="M20 42h36"/><text class="l" x="14" y="52" textLength="40" lengthAdjust="spacingAndGlyphs"> 8247</text></svg>stays: no move takes it</li>

@@ -12,7 +12,9 @@ use crate::grounds::Ground;
 use crate::words::{push_bay_name, push_counted, push_move, push_rows};
 use crp_cert::push_decimal;
 use crp_follow::{FollowedBay, StatedMove, relocations_of, standing};
-use crp_picture::{Frame, count_blocking, push_end, push_frame, push_ground_name, push_start};
+use crp_picture::{
+    DrawnBay, Frame, count_blocking, push_end, push_frame, push_ground_name, push_start,
+};
 use std::alloc::{AllocError, Global};
 
 /// Adds where a figure begins.
@@ -188,13 +190,13 @@ pub(crate) fn push_frame_figure(
     alloc: Global,
     text: &mut Vec<u8>,
     on: Ground,
-    bay: &FollowedBay,
+    bay: &DrawnBay<'_>,
     frame: &Frame<'_>,
 ) -> Result<(), AllocError>
-    ensures { OnOk result (text.new.items ≡ text.old.items ++ frame_figure on (bay_followed bay.now) (frame_as frame.now)) }
+    ensures { OnOk result (text.new.items ≡ text.old.items ++ frame_figure on bay.now (frame_as frame.now)) }
 {
     let (mut title, mut picture, mut caption) = (Vec::new(alloc), Vec::new(alloc), Vec::new(alloc));
-    push_frame_title(&mut title, bay, frame)?;
+    push_frame_title(&mut title, bay.followed(), frame)?;
     push_frame(alloc, &mut picture, on.tiers, bay, frame)?;
     push_frame_caption(&mut caption, frame)?;
     push_figure(text, on, &title, &picture, &caption)

@@ -7,9 +7,9 @@ ghost use Rattle.crp_page.specs.Page.{page_head, page_key, page_front};
 
 use crate::constants::{HEAD_OF_PAGE, KEY};
 use crate::grounds::{push_hidden_ground, push_sizes};
+use crate::ordered::OrderNumbers;
 use crate::summary::{push_paragraph, push_table};
 use crp_follow::Followed;
-use crp_said::Numbers;
 use crp_yard::Yard;
 use std::alloc::{AllocError, Global};
 
@@ -35,7 +35,7 @@ fn push_page_key(alloc: Global, text: &mut Vec<u8>, heights: &[u8]) -> Result<()
 pub(crate) fn page_front(
     alloc: Global,
     yard: &Yard,
-    numbers: Numbers,
+    numbers: OrderNumbers,
     followed: &Followed,
 ) -> Result<Vec<u8>, AllocError>
     requires { AllByRecursion LeaveFew (map bay_followed followed.now.bays.items) }

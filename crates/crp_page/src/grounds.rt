@@ -1,7 +1,7 @@
 //! What the figures of a bay stand on.
 ghost use Rattle.std.specs.Prelude.{◌≡◌, ◌+◌, ◌*◌, ◌++◌, max, length, option_map, OnOk};
 ghost use Rattle.crp_sizes.specs.Sizes.{heights_of};
-ghost use Rattle.crp_page.specs.Grounds.{paper_width, column_sizes, sizes, hidden_ground, ground_of};
+ghost use Rattle.crp_page.specs.Grounds.{on_paper, column_sizes, sizes, hidden_ground, ground_of};
 
 use crp_cert::push_decimal;
 use crp_picture::push_ground;
@@ -18,11 +18,19 @@ pub struct Ground {
     pub number: Option<u64>,
 }
 
-/// The width of a column of the paper.
-fn paper_width(rows: u64) -> &'static [u8]
-    ensures { result.now ≡ paper_width rows }
+/// How wide a figure of so many rows is on paper, and how the sheet lies.
+fn on_paper(rows: u64) -> &'static [u8]
+    ensures { result.now ≡ on_paper rows }
 {
-    if rows <= 7 { b"216" } else { b"336" }
+    if rows <= 4 {
+        b"20%;page:tall"
+    } else if rows <= 6 {
+        b"25%;page:tall"
+    } else if rows <= 8 {
+        b"33%;page:tall"
+    } else {
+        b"30%;page:wide"
+    }
 }
 
 /// The width of a column of the screen.
@@ -39,8 +47,7 @@ fn push_column_sizes(text: &mut Vec<u8>, rows: u64) -> Result<(), AllocError>
     text.extend_from_slice(b"px;--c:")?;
     push_decimal(text, screen_width(rows))?;
     text.extend_from_slice(b"px;--q:")?;
-    text.extend_from_slice(paper_width(rows))?;
-    text.extend_from_slice(b"px")
+    text.extend_from_slice(on_paper(rows))
 }
 
 /// Adds the sizes of pictures and columns, for rows of these heights.

@@ -10,10 +10,12 @@ mod counting;
 mod figures;
 mod front;
 mod grounds;
+mod ordered;
 mod section;
 mod summary;
 mod words;
 mod writing;
 
 pub use constants::{HEAD_OF_PAGE, KEY, TABLE_HEAD};
+pub use ordered::OrderNumbers;
 pub use writing::write_page;

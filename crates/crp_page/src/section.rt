@@ -12,7 +12,7 @@ use crate::grounds::{Ground, ground_of, push_hidden_ground, push_sizes};
 use crate::words::{push_counted, push_verdict};
 use crp_cert::push_decimal;
 use crp_follow::{FollowedBay, relocations_of};
-use crp_picture::Frame;
+use crp_picture::{DrawnBay, Frame};
 use crp_sizes::Sizes;
 use std::alloc::{AllocError, Global};
 
@@ -75,13 +75,13 @@ fn push_section_head(
     text.extend_from_slice(b"<section id=\"b")?;
     push_decimal(text, number)?;
     push_own_part(alloc, text, number, own)?;
-    text.extend_from_slice(b"<h2>")?;
+    text.extend_from_slice(b"<header><h2>")?;
     push_bay_title(text, bay)?;
     text.extend_from_slice(b"</h2><p>")?;
     push_verdict(text, bay.stated.said)?;
     text.extend_from_slice(b" &#183; ")?;
     push_moves_words(text, bay)?;
-    text.extend_from_slice(b"<a class=\"h\" href=\"#\">all bays</a></p><div>\n")?;
+    text.extend_from_slice(b"<a class=\"h\" href=\"#\">all bays</a></p></header><div><div>\n")?;
     Ok(())
 }
 
@@ -107,10 +107,10 @@ pub(crate) fn section_front(
 pub(crate) fn frame_text(
     alloc: Global,
     on: Ground,
-    bay: &FollowedBay,
+    bay: &DrawnBay<'_>,
     frame: &Frame<'_>,
 ) -> Result<Vec<u8>, AllocError>
-    ensures { IfOk result (λ text. text.items ≡ frame_figure on (bay_followed bay.now) (frame_as frame.now)) }
+    ensures { IfOk result (λ text. text.items ≡ frame_figure on bay.now (frame_as frame.now)) }
 {
     let mut text = Vec::new(alloc);
     push_frame_figure(alloc, &mut text, on, bay, frame)?;
@@ -145,6 +145,6 @@ pub(crate) fn section_end(
 {
     let mut text = Vec::new(alloc);
     push_end_part(alloc, &mut text, on, bay)?;
-    text.extend_from_slice(b"</div></section>\n")?;
+    text.extend_from_slice(b"</div></div></section>\n")?;
     Ok(text)
 }

@@ -4,10 +4,11 @@ ghost use Rattle.std.specs.List.{AllByRecursion};
 ghost use Rattle.crp_follow.specs.Views.{bay_followed};
 ghost use Rattle.crp_page.specs.Few.{LeaveFew};
 ghost use Rattle.crp_page.specs.Numbered.{numbered_text};
-ghost use Rattle.crp_page.specs.Summary.{not_taken, ordered, taken, paragraph, cell, cells, table_row, table_foot, table};
+ghost use Rattle.crp_page.specs.Summary.{not_taken, ordered, ordered_by, numbers_in, taken, paragraph, cell, cells, table_row, table_foot, table};
 
 use crate::constants::TABLE_HEAD;
 use crate::counting::{Counts, counts_of, decided_in, sums_of};
+use crate::ordered::OrderNumbers;
 use crate::words::{push_bay_name, push_counted, push_verdict};
 use crp_cert::push_decimal;
 use crp_follow::{Followed, FollowedBay};
@@ -26,14 +27,38 @@ fn push_not_taken(text: &mut Vec<u8>, orders: u128, known: u128) -> Result<(), A
     Ok(())
 }
 
-/// Adds the loading orders and groups.
+/// Adds the loading orders and groups, and the orders of containers that are not in the yard.
 fn push_ordered(text: &mut Vec<u8>, numbers: Numbers) -> Result<(), AllocError>
     ensures { OnOk result (text.new.items ≡ text.old.items ++ ordered numbers) }
 {
     push_counted(text, numbers.orders, b"container")?;
     text.extend_from_slice(b" ordered, ")?;
     push_counted(text, numbers.vacant, b"slot")?;
-    text.extend_from_slice(b" open: ")
+    text.extend_from_slice(b" open, ")?;
+    push_decimal(text, numbers.absent)?;
+    text.extend_from_slice(b" not in the yard")?;
+    Ok(())
+}
+
+/// Adds these, and who says so.
+fn push_ordered_by(text: &mut Vec<u8>, numbers: OrderNumbers) -> Result<(), AllocError>
+    ensures { OnOk result (text.new.items ≡ text.old.items ++ ordered_by numbers) }
+{
+    match numbers {
+        OrderNumbers::Counted(numbers) => push_ordered(text, numbers),
+        OrderNumbers::Stated(numbers) => {
+            push_ordered(text, numbers)?;
+            text.extend_from_slice(b", as the report says")
+        }
+    }
+}
+
+fn numbers_in(numbers: OrderNumbers) -> Numbers
+    ensures { result ≡ numbers_in numbers }
+{
+    match numbers {
+        OrderNumbers::Counted(numbers) | OrderNumbers::Stated(numbers) => numbers,
+    }
 }
 
 /// Adds how many are taken, and how many are not.
@@ -42,9 +67,7 @@ fn push_taken(text: &mut Vec<u8>, numbers: Numbers, takes: u128) -> Result<(), A
     ensures { OnOk result (text.new.items ≡ text.old.items ++ taken numbers takes) }
 {
     push_decimal(text, takes)?;
-    text.extend_from_slice(b" taken, ")?;
-    push_decimal(text, numbers.absent)?;
-    text.extend_from_slice(b" not in the yard")?;
+    text.extend_from_slice(b" taken by the moves")?;
     push_not_taken(text, numbers.orders as u128, takes + numbers.absent as u128)
 }
 
@@ -52,7 +75,7 @@ fn push_taken(text: &mut Vec<u8>, numbers: Numbers, takes: u128) -> Result<(), A
 pub(crate) fn push_paragraph(
     text: &mut Vec<u8>,
     count: usize,
-    numbers: Numbers,
+    numbers: OrderNumbers,
     followed: &Followed,
 ) -> Result<(), AllocError>
     requires { AllByRecursion LeaveFew (map bay_followed followed.now.bays.items) }
@@ -61,8 +84,9 @@ pub(crate) fn push_paragraph(
     let takes = sums_of(&followed.bays).takes;
     let others = count.saturating_sub(followed.bays.len());
     text.extend_from_slice(b"<p>")?;
-    push_ordered(text, numbers)?;
-    push_taken(text, numbers, takes)?;
+    push_ordered_by(text, numbers)?;
+    text.extend_from_slice(b"; ")?;
+    push_taken(text, numbers_in(numbers), takes)?;
     text.extend_from_slice(b". ")?;
     push_counted(text, others as u64, b"bay")?;
     text.extend_from_slice(b" of the yard not in the report.</p>\n")?;
@@ -126,7 +150,7 @@ fn push_table_foot(text: &mut Vec<u8>, bays: &[FollowedBay]) -> Result<(), Alloc
     push_counted(text, bays.len() as u64, b"bay")?;
     text.extend_from_slice(b"</th><td>")?;
     push_decimal(text, decided_in(bays))?;
-    text.extend_from_slice(b" decided</td>")?;
+    text.extend_from_slice(b" decided, as the report says</td>")?;
     push_cells(text, sums_of(bays))?;
     text.extend_from_slice(b"</tfoot></table>\n")?;
     Ok(())

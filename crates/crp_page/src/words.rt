@@ -110,7 +110,7 @@ fn kind_of(said: Said) -> &'static [u8]
     }
 }
 
-/// Adds a verdict, and that it is not checked.
+/// Adds a verdict, and that it is the report that says so.
 pub(crate) fn push_verdict(text: &mut Vec<u8>, said: Said) -> Result<(), AllocError>
     ensures { OnOk result (text.new.items ≡ text.old.items ++ verdict said) }
 {
@@ -118,7 +118,7 @@ pub(crate) fn push_verdict(text: &mut Vec<u8>, said: Said) -> Result<(), AllocEr
     text.extend_from_slice(kind_of(said))?;
     text.extend_from_slice(b"\">")?;
     push_said(text, said)?;
-    text.extend_from_slice(b"</span>, not checked")
+    text.extend_from_slice(b"</span>, as the report says")
 }
 
 /// Adds the names of containers that stand above another.

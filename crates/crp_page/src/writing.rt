@@ -6,8 +6,6 @@ ghost use Rattle.crp_plan.specs.Devices.{AppendsFront, AppendsPart, Transfers, m
 ghost use Rattle.crp_follow.specs.Followed.{IsFollowed};
 ghost use Rattle.crp_follow.specs.Table.{StandFew};
 ghost use Rattle.crp_follow.specs.Views.{bay_followed};
-ghost use Rattle.crp_picture.specs.Frames.{frames_of};
-ghost use Rattle.crp_picture.specs.Views.{frame_as};
 ghost use Rattle.crp_page.specs.Few.{LeaveFew};
 ghost use Rattle.crp_page.specs.Numbered.{numbered_text};
 ghost use Rattle.crp_page.specs.Sections.{frame_figure, section};
@@ -16,11 +14,11 @@ ghost use Rattle.crp_page.specs.Writing.{SinkNow, sink_now, Wrote};
 
 use crate::front::page_front;
 use crate::grounds::{Ground, ground_of};
+use crate::ordered::OrderNumbers;
 use crate::section::{frame_text, section_end, section_front};
 use crp_follow::{Followed, FollowedBay, what_columns_say};
-use crp_picture::{Frame, frames};
+use crp_picture::{DrawnBay, LaterFrames, frames};
 use crp_plan::{Sink, WriteFault, write_all};
-use crp_said::Numbers;
 use crp_sizes::Sizes;
 use crp_yard::Yard;
 use std::alloc::{AllocError, Global};
@@ -42,23 +40,25 @@ fn write_made<W: Sink>(
     Ok(())
 }
 
-/// Writes the figures of frames.
+/// Writes the figures of the frames of a bay that are still to come. Each is made when it is written, and not kept.
 fn write_frames<W: Sink>(
     alloc: Global,
     sink: &mut W,
     on: Ground,
-    bay: &FollowedBay,
-    frames: &[Frame<'_>],
+    bay: &DrawnBay<'_>,
+    frames: LaterFrames<'_>,
     interruptions: &mut u32,
 ) -> Result<(), WriteFault>
     requires { interruptions.old ≤ most_interruptions }
-    ensures wrote { Wrote result (flat_map (frame_figure on (bay_followed bay.now)) (map frame_as frames.now))
+    ensures wrote { Wrote result (flat_map (frame_figure on bay.now) frames.entry)
         (sink_now (W.contents sink.old) (W.failures sink.old) (W.interrupted sink.old) interruptions.old)
         (sink_now (W.contents sink.new) (W.failures sink.new) (W.interrupted sink.new) interruptions.new) }
     ensures passed { interruptions.new ≤ most_interruptions }
 {
-    for frame in frames {
-        write_made(sink, frame_text(alloc, on, bay, frame), interruptions)?;
+    let mut rest = frames;
+    while let Some((frame, later)) = rest.next(alloc)? {
+        write_made(sink, frame_text(alloc, on, bay, &frame), interruptions)?;
+        rest = later;
     }
     Ok(())
 }
@@ -80,6 +80,7 @@ fn write_section<W: Sink>(
         (sink_now (W.contents sink.new) (W.failures sink.new) (W.interrupted sink.new) interruptions.new) }
     ensures passed { interruptions.new ≤ most_interruptions }
 {
+    let drawn = DrawnBay::of(alloc, bay)?;
     let frames = frames(alloc, bay)?;
     let on = ground_of(sizes, number, &bay.stated.bay);
     write_made(
@@ -87,7 +88,7 @@ fn write_section<W: Sink>(
         section_front(alloc, sizes, number, bay),
         interruptions,
     )?;
-    write_frames(alloc, sink, on, bay, &frames, interruptions)?;
+    write_frames(alloc, sink, on, &drawn, frames, interruptions)?;
     write_made(sink, section_end(alloc, on, bay), interruptions)
 }
 
@@ -118,7 +119,7 @@ fn write_parts<W: Sink>(
     alloc: Global,
     sink: &mut W,
     yard: &Yard,
-    numbers: Numbers,
+    numbers: OrderNumbers,
     followed: &Followed,
     interruptions: &mut u32,
 ) -> Result<(), WriteFault>
@@ -150,7 +151,7 @@ pub fn write_page<W: Sink>(
     alloc: Global,
     sink: &mut W,
     yard: &Yard,
-    numbers: Numbers,
+    numbers: OrderNumbers,
     followed: &Followed,
     interruptions: &mut u32,
 ) -> Result<(), WriteFault>

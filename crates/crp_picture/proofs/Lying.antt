@@ -1,16 +1,18 @@
 -- Boxes of different places do not overlap, and the label of a place stands in it.
 use Rattle.std.proofs.Common.{◌≡◌, ◌≢◌, ◌∙◌, inl, inr, ℕ, zero, suc, ◌+◌, ◌-◌, ◌*◌, ◌<◌, ◌≤◌, ◌==◌, Bool, true, false, cond, List, [], ◌∷◌, ◌++◌, length, Option, None, Some, refl, sym, ap, subst, arith, append_assoc, append-nil}
-use Rattle.std.specs.Prelude.{codes, flat_map}
+use Rattle.std.specs.Prelude.{◌/◌, ◌%◌, ◌&&◌, nat_le, nat_lt, codes, flat_map}
+use Rattle.std.specs.Char.{encode_utf8}
 use Rattle.std.specs.Fmt.{digits}
-use Rattle.std.proofs.lemmas.Bool.{cases_lt}
-use Rattle.std.proofs.lemmas.Bool.Decides.{eqb_tells}
-use Rattle.std.proofs.lemmas.List.{length-drop}
+use Rattle.std.proofs.lemmas.Bool.{cases_lt, true≢false}
+use Rattle.std.proofs.lemmas.Bool.Decides.{leb_tells, eqb_tells}
+use Rattle.bstr.specs.Utf8.{Decoded, pieces, continues}
 use Rattle.crp_said.specs.declared.moves.Place.{Place}
 use Rattle.crp_picture.specs.declared.wording.Wording.TheVariants as wording
 use Rattle.crp_picture.specs.Grid.{x_of, y_of, line}
-use Rattle.crp_picture.specs.Names.{spaces, last_four, is_printable, label_byte, label}
+use Rattle.crp_picture.specs.Names.{spaces, last_four, is_in, is_narrow, label_char, label_piece, label}
 use Rattle.crp_picture.specs.Cells.{Cell}
 use Rattle.crp_picture.specs.Pictures.{cell_at, has_piece, piece_of, last_row, pieces_to}
+use Rattle.crp_picture.proofs.Cutting.{at_most_four}
 use Rattle.crp_picture.specs.Rectangles.{rectangle_of, IsPlaceUnder, AreApart, IsBoxIn, characters, IsLabelIn}
 
 -- ---- places
@@ -52,38 +54,145 @@ box_in tiers p = record {
 
 -- ---- characters
 
-byte_one : (b : ℕ) (ys : List ℕ) → characters (label_byte b ++ ys) ≡ suc (characters ys)
-byte_one b ys =
+-- a number above a range is not in it
+above : (least most c : ℕ) → most < c → is_in least most c ≡ false
+above least most c lt =
+    elim (leb_tells c most) [
+      | inl h ↦ absurd (omega (arith, h.1, lt))
+      | inr h ↦ rw h.0 (and_false (nat_le least c))
+    ]
+  where
+    and_false : (t : Bool) → (t && false) ≡ false
+    and_false true = refl
+    and_false false = refl
+
+-- a narrow character takes two bytes at most
+narrow_short : (c : ℕ) → is_narrow c ≡ true → c < 2048
+narrow_short c narrow =
+    elim (cases_lt 1327 c) [
+      | inl far ↦ absurd (true≢false (sym narrow ∙ none far))
+      | inr near ↦ omega (arith, near)
+    ]
+  where
+    none : 1327 < c → is_narrow c ≡ false
+    none far = rw (above 32 126 c (omega (arith, far)), above 161 172 c (omega (arith, far)), above 174 767 c (omega (arith, far)), above 880 1154 c (omega (arith, far)), above 1162 1327 c far) refl
+
+-- a byte that begins a character, and one that goes on with it
+begins : (b : ℕ) (ys : List ℕ) → (b == 38) ≡ false → continues b ≡ false → characters (b ∷ ys) ≡ suc (characters ys)
+begins b ys plain first = rw (plain, first) refl
+
+goes_on : (b : ℕ) (ys : List ℕ) → (b == 38) ≡ false → continues b ≡ true → characters (b ∷ ys) ≡ characters ys
+goes_on b ys plain first = rw (plain, first) refl
+
+other_byte : (b : ℕ) → b ≢ 38 → (b == 38) ≡ false
+other_byte b other =
     elim (eqb_tells b 38) [
+      | inl h ↦ absurd (other h.1)
+      | inr h ↦ h.0
+    ]
+
+ascii_begins : (b : ℕ) → b < 128 → continues b ≡ false
+ascii_begins b small =
+    elim (leb_tells 128 b) [
+      | inl h ↦ absurd (omega (arith, h.1, small))
+      | inr h ↦ rw h.0 refl
+    ]
+
+lead_begins : (b : ℕ) → 192 ≤ b → continues b ≡ false
+lead_begins b large =
+    elim (leb_tells (suc b) 192) [
+      | inl h ↦ absurd (omega (arith, h.1, large))
+      | inr h ↦ rw h.0 (and_false (nat_lt 127 b))
+    ]
+  where
+    and_false : (t : Bool) → (t && false) ≡ false
+    and_false true = refl
+    and_false false = refl
+
+continues_on : (b : ℕ) → 128 ≤ b → b < 192 → continues b ≡ true
+continues_on b low high =
+    elim (leb_tells 128 b) [
+      | inl h ↦
+          elim (leb_tells (suc b) 192) [
+            | inl k ↦ rw (h.0, k.0) refl
+            | inr k ↦ absurd (omega (arith, k.1, high))
+          ]
+      | inr h ↦ absurd (omega (arith, h.1, low))
+    ]
+
+-- the bytes of a character that has one or two
+one_byte : (c : ℕ) → c < 128 → encode_utf8 c ≡ c ∷ []
+unfolding encode_utf8
+one_byte c small =
+    elim (leb_tells (suc c) 128) [
+      | inl h ↦ rw h.0 refl
+      | inr h ↦ absurd (omega (arith, h.1, small))
+    ]
+
+two_bytes : (c : ℕ) → 128 ≤ c → c < 2048 → encode_utf8 c ≡ (192 + c / 64) ∷ (128 + c % 64) ∷ []
+unfolding encode_utf8
+two_bytes c low high =
+    elim (leb_tells (suc c) 128) [
+      | inl h ↦ absurd (omega (arith, h.1, low))
+      | inr h ↦
+          elim (leb_tells (suc c) 2048) [
+            | inl k ↦ rw (h.0, k.0) refl
+            | inr k ↦ absurd (omega (arith, k.1, high))
+          ]
+    ]
+
+narrow_one : (c : ℕ) (ys : List ℕ) → (c == 38) ≡ false → c < 2048 → characters (encode_utf8 c ++ ys) ≡ suc (characters ys)
+narrow_one c ys plain short =
+    elim (cases_lt c 128) [
+      | inl small ↦ ap (λ l. characters (l ++ ys)) (one_byte c small) ∙ begins c ys plain (ascii_begins c small)
+      | inr large ↦
+          let lead : 192 ≤ 192 + c / 64 = omega arith in
+          let low : 128 ≤ 128 + c % 64 = omega arith in
+          let high : 128 + c % 64 < 192 = omega arith in
+          ap (λ l. characters (l ++ ys)) (two_bytes c large short) ∙ begins (192 + c / 64) ((128 + c % 64) ∷ ys) (other_byte (192 + c / 64) (λ e. omega (arith, lead, e))) (lead_begins (192 + c / 64) lead)
+          ∙ ap suc (goes_on (128 + c % 64) ys (other_byte (128 + c % 64) (λ e. omega (arith, low, e))) (continues_on (128 + c % 64) low high))
+    ]
+
+char_one : (c : ℕ) (ys : List ℕ) → characters (label_char c ++ ys) ≡ suc (characters ys)
+char_one c ys =
+    elim (eqb_tells c 38) [
       | inl h ↦ rw h.0 refl
       | inr a ↦
-          elim (eqb_tells b 60) [
+          elim (eqb_tells c 60) [
             | inl h ↦ rw (a.0, h.0) refl
-            | inr c ↦
-                elim (eqb_tells b 62) [
-                  | inl h ↦ rw (a.0, c.0, h.0) refl
+            | inr b ↦
+                elim (eqb_tells c 62) [
+                  | inl h ↦ rw (a.0, b.0, h.0) refl
                   | inr d ↦
-                      elim (eqb_tells b 34) [
-                        | inl h ↦ rw (a.0, c.0, d.0, h.0) refl
+                      elim (eqb_tells c 34) [
+                        | inl h ↦ rw (a.0, b.0, d.0, h.0) refl
                         | inr e ↦
-                            elim (eqb_tells b 39) [
-                              | inl h ↦ rw (a.0, c.0, d.0, e.0, h.0) refl
-                              | inr f ↦ rw (a.0, c.0, d.0, e.0, f.0) (plain_one b ys (is_printable b) a.0)
+                            elim (eqb_tells c 39) [
+                              | inl h ↦ rw (a.0, b.0, d.0, e.0, h.0) refl
+                              | inr f ↦ rw (a.0, b.0, d.0, e.0, f.0) (plain_one (is_narrow c) (λ narrow. narrow_one c ys a.0 (narrow_short c narrow)))
                             ]
                       ]
                 ]
           ]
     ]
   where
-    plain_one : (b : ℕ) (ys : List ℕ) (t : Bool) → (b == 38) ≡ false → characters (cond t (b ∷ []) (codes "&#183;") ++ ys) ≡ suc (characters ys)
-    plain_one b ys true e = rw e refl
-    plain_one b ys false e = refl
+    plain_one : (t : Bool) → (t ≡ true → characters (encode_utf8 c ++ ys) ≡ suc (characters ys)) → characters (cond t (encode_utf8 c) (codes "&#183;") ++ ys) ≡ suc (characters ys)
+    plain_one true narrow = narrow refl
+    plain_one false narrow = refl
 
-bytes_each : (name ys : List ℕ) → characters (flat_map label_byte name ++ ys) ≡ length name + characters ys
-bytes_each [] ys = omega arith
-bytes_each (b ∷ name) ys =
-    let first = ap characters (append_assoc (label_byte b) (flat_map label_byte name) ys) ∙ byte_one b (flat_map label_byte name ++ ys) in
-    let more = bytes_each name ys in omega (arith, first, more)
+piece_one : (o : Option ℕ) (ys : List ℕ) → characters (label_piece o ++ ys) ≡ suc (characters ys)
+piece_one None ys = refl
+piece_one (Some c) ys = char_one c ys
+
+shown : List Decoded → List ℕ
+shown ps = flat_map (λ p. label_piece p.char) ps
+
+pieces_each : (ps : List Decoded) (ys : List ℕ) → characters (shown ps ++ ys) ≡ length ps + characters ys
+unfolding shown
+pieces_each [] ys = omega arith
+pieces_each (p ∷ ps) ys =
+    let first = ap characters (append_assoc (label_piece p.char) (shown ps) ys) ∙ piece_one p.char (shown ps ++ ys) in
+    let more = pieces_each ps ys in omega (arith, first, more)
 
 -- ---- a label: a space, and four characters
 
@@ -104,12 +213,13 @@ spaced_five n k shown e long = by n e
     by (suc (suc (suc (suc (suc n))))) e = absurd (omega (arith, e))
 
 label_five : (name : List ℕ) → IsFive (label name)
+unfolding shown
 label_five name =
-    let k = length (last_four name) in
-    let few : k ≤ 4 = omega (arith, length-drop (length name - 4) name) in
+    let ps = pieces (last_four name) in
+    let k = length ps in
+    let few : k ≤ 4 = at_most_four name in
     let n : 5 - k ≡ suc (4 - k) = omega (arith, few) in
-    let shown = flat_map label_byte (last_four name) in
-    subst (λ w. IsFive (spaces w ++ shown)) (sym n) (spaced_five (4 - k) k shown (omega (arith, few)) (bytes_each (last_four name)))
+    subst (λ w. IsFive (spaces w ++ shown ps)) (sym n) (spaced_five (4 - k) k (shown ps) (omega (arith, few)) (pieces_each ps))
 
 piece_five : (o : Option Cell) → IsFive (piece_of wording.Labels o)
 piece_five None = spaced_five 4 0 [] refl (λ ys. omega arith)

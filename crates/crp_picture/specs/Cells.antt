@@ -1,9 +1,7 @@
 -- The containers of a position as a picture shows them, row by row from row 1, each from the ground up.
-use Rattle.std.specs.Prelude.{ℕ, zero, suc, ◌-◌, ◌*◌, ◌/◌, ◌==◌, nat_lt, Bool, false, ◌&&◌, ◌||◌, List, [], ◌++◌, length, take, slice_get, option_map, option_to_list, unwrap_or, if◌then◌else◌}
+use Rattle.std.specs.Prelude.{ℕ, zero, suc, ◌-◌, ◌*◌, ◌/◌, ◌==◌, nat_lt, Bool, ◌&&◌, ◌||◌, List, [], ◌++◌, length, take, slice_get, option_map, option_to_list, unwrap_or, if◌then◌else◌}
 use Rattle.std.specs.List.{list_any}
-use Rattle.std.specs.Str.{bytes_eq}
 use Rattle.crp_said.specs.declared.moves.SaidMove.{SaidMove}
-use Rattle.crp_said.specs.declared.moves.SaidMove.TheVariants.{Shift, Take}
 use Rattle.crp_follow.specs.Crane.{Stack, stack_of}
 use Rattle.crp_follow.specs.Table.{takes_from, leaves_at}
 use Rattle.crp_picture.specs.declared.cell.Kind.{Kind}
@@ -17,11 +15,6 @@ pub record Cell : Type 0 where
   pub step : ℕ
   pub blocks : Bool
   pub kind : Kind
-
--- the move takes the container
-abbrev pub takes : SaidMove → List ℕ → Bool
-takes (Shift from to container) name = false
-takes (Take from container) name = bytes_eq container name
 
 -- the step at which these moves take the container, from 1; 0 where none does
 abbrev pub step_of : List SaidMove → List ℕ → ℕ

@@ -1,5 +1,6 @@
 -- Where places lie in a picture, in px, and what a box and a label cover there.
 use Rattle.std.specs.Prelude.{◌≡◌, ◌⊎◌, ℕ, suc, ◌+◌, ◌-◌, ◌*◌, ◌≤◌, ◌==◌, Bool, true, false, List, [], ◌∷◌, ◌++◌, decimal, if◌then◌else◌}
+use Rattle.bstr.specs.Utf8.{continues}
 use Rattle.crp_said.specs.declared.moves.Place.{Place}
 use Rattle.crp_picture.specs.declared.wording.Wording.TheVariants as wording
 use Rattle.crp_picture.specs.Grid.{x_of, y_of, bar_at, line}
@@ -48,10 +49,11 @@ pub record IsBoxIn (tiers : ℕ) (p : Place) : Type 0 where
   pub drawn : bar_at tiers p.row p.tier ≡ line_right x y long
   pub within : IsWithin (covered x y long) (rectangle_of tiers p)
 
--- how many characters a text of a page has, from within an entity or not: an entity is one
+-- how many characters a text of a page has, from within an entity or not: an entity is one, and a byte that goes on with a character is none
 abbrev pub characters_from : Bool → List ℕ → ℕ
 characters_from is_within [] = 0
-characters_from false (b ∷ bytes) = if b == 38 then characters_from true bytes else suc (characters_from false bytes)
+characters_from false (b ∷ bytes) =
+    if b == 38 then characters_from true bytes else (if continues b then characters_from false bytes else suc (characters_from false bytes))
 characters_from true (b ∷ bytes) = if b == 59 then suc (characters_from false bytes) else characters_from true bytes
 
 abbrev pub characters : List ℕ → ℕ

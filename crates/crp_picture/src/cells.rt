@@ -7,60 +7,56 @@ ghost use Rattle.crp_picture.specs.Frames.{is_at, kind_of, acting, goals, frame_
 ghost use Rattle.crp_picture.specs.Views.{cell_as, frame_as};
 
 use crate::cell::{Cell, Kind};
+use crate::drawn::DrawnBay;
 use crate::frame::Frame;
 use crate::moving::stack_in;
-use crate::steps::{blocks, kind_at, step_of};
+use crate::steps::{blocks, kind_at};
 use crp_follow::{FollowedBay, Row, StatedMove};
 use crp_plan::Container;
 use crp_said::{Place, SaidMove};
 use std::alloc::{AllocError, Global};
 
 // A container on top of these in a row.
-fn cell_on<'a>(
-    moves: &[StatedMove],
-    row: u64,
-    beneath: &[Container],
-    name: &'a Container,
-) -> Cell<'a>
-    ensures { cell_as result ≡ cell_on (moves_of moves.now) row beneath.now name.now }
+fn cell_on<'a>(bay: &DrawnBay<'_>, row: u64, beneath: &[Container], name: &'a Container) -> Cell<'a>
+    ensures { cell_as result ≡ cell_on (moves_of bay.now.stated.moves) row beneath.now name.now }
 {
-    let step = step_of(moves, name.bytes());
+    let step = bay.step_of(name.bytes());
     Cell {
         row,
         tier: beneath.len() as u64 + 1,
         name,
         step,
-        blocks: blocks(moves, beneath, name.bytes()),
-        kind: kind_at(step, moves.len() as u64),
+        blocks: blocks(bay, beneath, name.bytes()),
+        kind: kind_at(step, bay.count()),
     }
 }
 
 // Adds the containers of a row.
 fn add_row<'a>(
     cells: &mut Vec<Cell<'a>>,
-    moves: &[StatedMove],
+    bay: &DrawnBay<'_>,
     row: u64,
     stack: &'a [Container],
 ) -> Result<(), AllocError>
-    ensures { OnOk result (map cell_as cells.new.items ≡ map cell_as cells.old.items ++ row_cells (moves_of moves.now) row stack.now (length stack.now)) }
+    ensures { OnOk result (map cell_as cells.new.items ≡ map cell_as cells.old.items ++ row_cells (moves_of bay.now.stated.moves) row stack.now (length stack.now)) }
 {
     for i in 0..stack.len() {
-        cells.push(cell_on(moves, row, &stack[..i], &stack[i]))?;
+        cells.push(cell_on(bay, row, &stack[..i], &stack[i]))?;
     }
     Ok(())
 }
 
-/// The containers of a position, where these are all moves of the bay.
+/// The containers of a position of a bay.
 pub(crate) fn cells_of<'a>(
     alloc: Global,
-    moves: &[StatedMove],
+    bay: &DrawnBay<'_>,
     rows: &'a [Row],
 ) -> Result<Vec<Cell<'a>>, AllocError>
-    ensures { IfOk result (λ cells. map cell_as cells.items ≡ cells_of (moves_of moves.now) rows.now) }
+    ensures { IfOk result (λ cells. map cell_as cells.items ≡ cells_of (moves_of bay.now.stated.moves) rows.now) }
 {
     let mut cells = Vec::new(alloc);
     for i in 0..rows.len() {
-        add_row(&mut cells, moves, i as u64 + 1, rows[i].containers())?;
+        add_row(&mut cells, bay, i as u64 + 1, rows[i].containers())?;
     }
     Ok(cells)
 }
@@ -99,33 +95,33 @@ fn acting(moves: &[StatedMove], cell: &Cell<'_>) -> Kind
 // Adds the container of the first of the moves where it is put, if this is a relocation.
 fn add_goal<'a>(
     cells: &mut Vec<Cell<'a>>,
-    all: &[StatedMove],
+    bay: &DrawnBay<'_>,
     rows: &[Row],
     moves: &'a [StatedMove],
 ) -> Result<(), AllocError>
-    ensures { OnOk result (map cell_as cells.new.items ≡ map cell_as cells.old.items ++ goals (moves_of all.now) rows.now moves.now) }
+    ensures { OnOk result (map cell_as cells.new.items ≡ map cell_as cells.old.items ++ goals (moves_of bay.now.stated.moves) rows.now moves.now) }
 {
     let [first, ..] = moves else {
         return Ok(());
     };
     if let SaidMove::Shift { to, container, .. } = &first.said {
-        let mut goal = cell_on(all, u64::from(to.row), stack_in(rows, to.row), container);
+        let mut goal = cell_on(bay, u64::from(to.row), stack_in(rows, to.row), container);
         goal.kind = Kind::Goal;
         cells.push(goal)?;
     }
     Ok(())
 }
 
-/// The containers of a frame, where these are all moves of the bay.
+/// The containers of a frame of a bay.
 pub(crate) fn frame_cells<'a>(
     alloc: Global,
-    all: &[StatedMove],
+    bay: &DrawnBay<'_>,
     frame: &'a Frame<'a>,
 ) -> Result<Vec<Cell<'a>>, AllocError>
-    ensures { IfOk result (λ cells. map cell_as cells.items ≡ frame_cells (moves_of all.now) (frame_as frame.now)) }
+    ensures { IfOk result (λ cells. map cell_as cells.items ≡ frame_cells (moves_of bay.now.stated.moves) (frame_as frame.now)) }
 {
-    let mut still = cells_of(alloc, all, &frame.before)?;
-    add_goal(&mut still, all, &frame.before, frame.moves)?;
+    let mut still = cells_of(alloc, bay, &frame.before)?;
+    add_goal(&mut still, bay, &frame.before, frame.moves)?;
     let mut cells = Vec::new(alloc);
     for cell in &still {
         let mut acts = *cell;
@@ -152,6 +148,7 @@ fn blocking_of(cells: &[Cell<'_>]) -> usize
 pub fn count_blocking(alloc: Global, bay: &FollowedBay) -> Result<usize, AllocError>
     ensures { IfOk result (λ count. count ≡ count_by (λ c. c.blocks) (cells_of (moves_of bay.now.stated.moves.items) bay.now.start.items)) }
 {
-    let cells = cells_of(alloc, &bay.stated.moves, &bay.start)?;
+    let drawn = DrawnBay::of(alloc, bay)?;
+    let cells = cells_of(alloc, &drawn, &bay.start)?;
     Ok(blocking_of(&cells))
 }

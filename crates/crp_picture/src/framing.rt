@@ -1,7 +1,7 @@
 //! The frames of a bay.
-ghost use Rattle.std.specs.Prelude.{◌≡◌, ◌++◌, map, IfOk, OnOk};
+ghost use Rattle.std.specs.Prelude.{◌≡◌, ◌∷◌, [], IfOk, IfSome, IfNone};
 ghost use Rattle.crp_follow.specs.Views.{bay_followed};
-ghost use Rattle.crp_picture.specs.Frames.{frame_at, first_frame, frames_of};
+ghost use Rattle.crp_picture.specs.Frames.{frame_at, frames_of};
 ghost use Rattle.crp_picture.specs.Views.{frame_as};
 
 use crate::frame::Frame;
@@ -9,6 +9,7 @@ use crate::moving::{copied, make};
 use crate::steps::{frame_length, is_shift};
 use crp_follow::{FollowedBay, Row, StatedMove};
 use std::alloc::{AllocError, Global};
+use std::marker::Model;
 
 // The frame that the first of these moves begins, which has this number and is made over these rows.
 fn frame_at<'a>(
@@ -29,35 +30,56 @@ fn frame_at<'a>(
     })
 }
 
-// Adds it, if the first of these moves begins one.
-fn add_frame<'a>(
-    alloc: Global,
-    frames: &mut Vec<Frame<'a>>,
-    step: u64,
-    rows: &[Row],
+/// The frames of a bay that are still to come, one after the other: the moves of the bay, how many of them are made, and the rows then.
+#[derive(Drop)]
+pub struct LaterFrames<'a> {
     moves: &'a [StatedMove],
-) -> Result<(), AllocError>
-    ensures { OnOk result (map frame_as frames.new.items ≡ map frame_as frames.old.items ++ first_frame step rows.now moves.now) }
-{
-    let [first, ..] = moves else {
-        return Ok(());
-    };
-    if step == 1 || is_shift(&first.said) {
-        frames.push(frame_at(alloc, step, rows, moves)?)?;
-    }
-    Ok(())
+    made: usize,
+    rows: Vec<Row>,
 }
 
-/// The frames of a bay, in their order.
-pub fn frames(alloc: Global, bay: &FollowedBay) -> Result<Vec<Frame<'_>>, AllocError>
-    ensures { IfOk result (λ frames. map frame_as frames.items ≡ frames_of (bay_followed bay.now)) }
-{
-    let moves: &[StatedMove] = &bay.stated.moves;
-    let mut frames = Vec::new(alloc);
-    let mut rows = copied(alloc, &bay.start)?;
-    for (i, stated) in moves.iter().enumerate() {
-        add_frame(alloc, &mut frames, i as u64 + 1, &rows, &moves[i..])?;
-        make(alloc, &mut rows, &stated.said)?;
+impl<'a> Model for LaterFrames<'a> {
+    ghost use Rattle.std.specs.Prelude.{◌+◌, List, drop};
+    ghost use Rattle.crp_picture.specs.Frames.{Frame, frames_from};
+
+    ghost Value = { List Frame };
+
+    ghost view = { λ a. frames_from (a.made + 1) a.rows.items (drop a.made a.moves.now) };
+}
+
+impl<'a> LaterFrames<'a> {
+    /// The next frame, if there is one, and those behind it.
+    pub fn next(self, alloc: Global) -> Result<Option<(Frame<'a>, LaterFrames<'a>)>, AllocError>
+        ensures next { IfOk result (λ next. IfSome next (λ x. self.entry ≡ frame_as x.0 ∷ x.1)) }
+        ensures none { IfOk result (λ next. IfNone next (self.entry ≡ [])) }
+    {
+        let LaterFrames {
+            moves,
+            made,
+            mut rows,
+        } = self;
+        for i in made..moves.len() {
+            let said = &moves[i].said;
+            if i == 0 || is_shift(said) {
+                let frame = frame_at(alloc, i as u64 + 1, &rows, &moves[i..])?;
+                make(alloc, &mut rows, said)?;
+                let made = i + 1;
+                return Ok(Some((frame, LaterFrames { moves, made, rows })));
+            }
+            make(alloc, &mut rows, said)?;
+        }
+        Ok(None)
     }
-    Ok(frames)
+}
+
+/// The frames of a bay, in their order. None is made before it is asked for.
+pub fn frames(alloc: Global, bay: &FollowedBay) -> Result<LaterFrames<'_>, AllocError>
+    ensures { IfOk result (λ frames. frames ≡ frames_of (bay_followed bay.now)) }
+{
+    let rows = copied(alloc, &bay.start)?;
+    Ok(LaterFrames {
+        moves: &bay.stated.moves,
+        made: 0,
+        rows,
+    })
 }

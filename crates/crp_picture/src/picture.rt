@@ -9,6 +9,7 @@ ghost use Rattle.crp_picture.specs.Views.{cell_as, frame_as};
 
 use crate::cell::Cell;
 use crate::cells::{cells_of, frame_cells};
+use crate::drawn::DrawnBay;
 use crate::frame::Frame;
 use crate::grid::{push_outline, push_path, x_of, y_of};
 use crate::labels::push_lines;
@@ -68,16 +69,16 @@ fn push_aim(
     alloc: Global,
     text: &mut Vec<u8>,
     tiers: u8,
-    all: &[StatedMove],
+    bay: &DrawnBay<'_>,
     frame: &Frame<'_>,
 ) -> Result<(), AllocError>
-    ensures { OnOk result (text.new.items ≡ text.old.items ++ aim tiers (moves_of all.now) (frame_as frame.now) (aimed_at (frame_as frame.now))) }
+    ensures { OnOk result (text.new.items ≡ text.old.items ++ aim tiers (moves_of bay.now.stated.moves) (frame_as frame.now) (aimed_at (frame_as frame.now))) }
 {
     let Some(container) = aimed_at(frame) else {
         return Ok(());
     };
     let rows = rows_after(alloc, &frame.before, frame.moves)?;
-    let cells = cells_of(alloc, all, &rows)?;
+    let cells = cells_of(alloc, bay, &rows)?;
     let mut strokes = Vec::new(alloc);
     push_outlines(&mut strokes, tiers, container.bytes(), &cells)?;
     push_path(text, b"e", &strokes)
@@ -174,17 +175,18 @@ fn push_first_arrow(
     }
 }
 
-// Adds the position in which these rows stand, where these are all moves of the bay.
+// Adds the position of a bay in which these rows stand.
 fn push_position(
     alloc: Global,
     text: &mut Vec<u8>,
     tiers: u8,
-    all: &[StatedMove],
+    bay: &FollowedBay,
     rows: &[Row],
 ) -> Result<(), AllocError>
-    ensures { OnOk result (text.new.items ≡ text.old.items ++ position_picture tiers (moves_of all.now) rows.now) }
+    ensures { OnOk result (text.new.items ≡ text.old.items ++ position_picture tiers (moves_of bay.now.stated.moves.items) rows.now) }
 {
-    let cells = cells_of(alloc, all, rows)?;
+    let drawn = DrawnBay::of(alloc, bay)?;
+    let cells = cells_of(alloc, &drawn, rows)?;
     push_drawn(alloc, text, tiers, rows.len(), &cells)?;
     Ok(())
 }
@@ -198,7 +200,7 @@ pub fn push_start(
 ) -> Result<(), AllocError>
     ensures { OnOk result (text.new.items ≡ text.old.items ++ start_picture tiers (bay_followed bay.now)) }
 {
-    push_position(alloc, text, tiers, &bay.stated.moves, &bay.start)?;
+    push_position(alloc, text, tiers, bay, &bay.start)?;
     Ok(())
 }
 
@@ -211,7 +213,7 @@ pub fn push_end(
 ) -> Result<(), AllocError>
     ensures { OnOk result (text.new.items ≡ text.old.items ++ end_picture tiers (bay_followed bay.now)) }
 {
-    push_position(alloc, text, tiers, &bay.stated.moves, &bay.after)?;
+    push_position(alloc, text, tiers, bay, &bay.after)?;
     Ok(())
 }
 
@@ -220,15 +222,14 @@ pub fn push_frame(
     alloc: Global,
     text: &mut Vec<u8>,
     tiers: u8,
-    bay: &FollowedBay,
+    bay: &DrawnBay<'_>,
     frame: &Frame<'_>,
 ) -> Result<(), AllocError>
-    ensures { OnOk result (text.new.items ≡ text.old.items ++ frame_picture tiers (bay_followed bay.now) (frame_as frame.now)) }
+    ensures { OnOk result (text.new.items ≡ text.old.items ++ frame_picture tiers bay.now (frame_as frame.now)) }
 {
-    let all: &[StatedMove] = &bay.stated.moves;
-    let cells = frame_cells(alloc, all, frame)?;
+    let cells = frame_cells(alloc, bay, frame)?;
     push_drawn(alloc, text, tiers, frame.before.len(), &cells)?;
-    push_aim(alloc, text, tiers, all, frame)?;
+    push_aim(alloc, text, tiers, bay, frame)?;
     push_first_arrow(alloc, text, tiers, frame.step, frame.moves)?;
     Ok(())
 }

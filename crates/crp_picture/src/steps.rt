@@ -2,10 +2,11 @@
 ghost use Rattle.std.specs.Prelude.{◌≡◌, ◌≤◌, length, option_map};
 ghost use Rattle.crp_follow.specs.Faults.{is_shift};
 ghost use Rattle.crp_follow.specs.Stated.{moves_of};
-ghost use Rattle.crp_picture.specs.Cells.{takes, step_of, leaves_before, in_fifth, kind_at, blocks};
+ghost use Rattle.crp_picture.specs.Cells.{leaves_before, in_fifth, kind_at, blocks};
 ghost use Rattle.crp_picture.specs.Frames.{taken_by, takes_first, frame_length, first_taken};
 
 use crate::cell::Kind;
+use crate::drawn::DrawnBay;
 use crp_follow::StatedMove;
 use crp_plan::Container;
 use crp_said::SaidMove;
@@ -25,29 +26,6 @@ fn taken_by(said: &SaidMove) -> Option<&Container>
         SaidMove::Shift { .. } => None,
         SaidMove::Take { container, .. } => Some(container),
     }
-}
-
-// Whether a move takes the container.
-fn takes(said: &SaidMove, name: &[u8]) -> bool
-    ensures { result ≡ takes said.now name.now }
-{
-    match said {
-        SaidMove::Shift { .. } => false,
-        SaidMove::Take { container, .. } => container.bytes() == name,
-    }
-}
-
-/// The step at which these moves take the container, from 1; 0 where none does.
-pub(crate) fn step_of(moves: &[StatedMove], name: &[u8]) -> u64
-    ensures value { result ≡ step_of (moves_of moves.now) name.now }
-    ensures among { result ≤ length moves.now }
-{
-    for (i, stated) in moves.iter().enumerate() {
-        if takes(&stated.said, name) {
-            return i as u64 + 1;
-        }
-    }
-    0
 }
 
 // How many takes the moves begin with.
@@ -93,13 +71,13 @@ fn leaves_before(step: u64, other: u64) -> bool
     step > 0 && (other == 0 || step < other)
 }
 
-/// Whether one of these leaves before the container.
-pub(crate) fn blocks(moves: &[StatedMove], beneath: &[Container], name: &[u8]) -> bool
-    ensures { result ≡ blocks (moves_of moves.now) beneath.now name.now }
+/// Whether one of these leaves the bay before the container.
+pub(crate) fn blocks(bay: &DrawnBay<'_>, beneath: &[Container], name: &[u8]) -> bool
+    ensures { result ≡ blocks (moves_of bay.now.stated.moves) beneath.now name.now }
 {
-    let own = step_of(moves, name);
+    let own = bay.step_of(name);
     for below in beneath {
-        if leaves_before(step_of(moves, below.bytes()), own) {
+        if leaves_before(bay.step_of(below.bytes()), own) {
             return true;
         }
     }

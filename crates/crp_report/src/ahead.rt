@@ -1,4 +1,4 @@
-//! Looks ahead: where a yard has many bays, workers look at one each, and what they answer waits until its turn comes.
+//! Looks ahead: where a yard has many bays left, workers search one each, and what they answer waits until its turn comes.
 //!
 //! Nothing is proved of who looks at which bay, nor that anybody does.
 ghost use Rattle.std.specs.Prelude.{◌≡◌, ◌++◌, List, All, Some, IfSome, slice_get};
@@ -17,8 +17,14 @@ use std::sync::atomic::{AtomicUsize, Ordering};
 use std::thread;
 use std::thread::Threads;
 
-/// The most bays for each worker whose answers wait.
+// The most expansions of one worker in a search of a bay that it has for itself.
+const MOST: u64 = 1 << 20;
+
+// The most bays for each worker whose answers wait.
 const AHEAD: usize = 64;
+
+// No more bays are looked at while the certificates that wait have so many bytes.
+const WAITING: usize = 1 << 26;
 
 /// The answer to the problem of a bay, and what is stated of it.
 #[derive(Drop)]
@@ -42,6 +48,13 @@ pub(crate) struct Looks {
     pub from: usize,
 }
 
+// What those who look share: the place behind the next bay, and how many bytes the certificates have that were found.
+#[derive(Drop)]
+struct Share {
+    next: AtomicUsize,
+    bytes: AtomicUsize,
+}
+
 // Looks at the bay at this place.
 fn look_at<T: Threads + Wait + Sync, K: Clock + Sync>(
     rt: &T,
@@ -55,7 +68,7 @@ fn look_at<T: Threads + Wait + Sync, K: Clock + Sync>(
 {
     let bay = bays.get(place)?;
     let gate = timer.gate(&NoGate, settings.time());
-    let solved = look(rt, alloc, &bay.problem, settings, &gate)?;
+    let solved = look(rt, alloc, &bay.problem, settings, MOST, &gate)?;
     let Ok(texts) = texts_of_bay(alloc, bay, &solved) else {
         return None;
     };
@@ -81,25 +94,37 @@ fn keep_one(found: &mut Vec<Look>, look: Option<Look>)
     }
 }
 
-// Looks at one bay after the other that no other worker takes, up to this place.
+// How many bytes the certificate has, if there is one.
+fn bytes_of(look: &Option<Look>) -> usize {
+    match look {
+        Some(look) => look.ready.texts.certificate.len(),
+        None => 0,
+    }
+}
+
+// Looks at one bay after the other that nobody else takes, from the last one down to this place.
 fn look_on<T: Threads + Wait + Sync, K: Clock + Sync>(
     rt: &T,
     alloc: Global,
     timer: &Timer<'_, K>,
     bays: &[BayProblem],
     settings: Settings,
-    next: &AtomicUsize,
-    end: usize,
+    from: usize,
+    share: &Share,
 ) -> Vec<Look>
     ensures { AreOfPlaces settings bays.now result.items }
 {
     let mut found = Vec::new(alloc);
-    for _ in 0..end {
-        let place = next.fetch_add(1, Ordering::SeqCst);
-        if place >= end {
+    for _ in 0..bays.len() {
+        if share.bytes.load(Ordering::SeqCst) >= WAITING {
+            break;
+        }
+        let place = share.next.fetch_sub(1, Ordering::SeqCst).wrapping_sub(1);
+        if place < from || place >= bays.len() {
             break;
         }
         let look = look_at(rt, alloc, timer, bays, settings, place);
+        share.bytes.fetch_add(bytes_of(&look), Ordering::SeqCst);
         keep_one(&mut found, look);
     }
     found
@@ -116,7 +141,7 @@ fn together(alloc: Global, lists: Vec<Vec<Look>>) -> Vec<Look>
     all
 }
 
-// So many workers look at the bays from one place up to another.
+// So many workers look at the bays from the last one down to this place.
 fn looks_of<T: Threads + Wait + Sync, K: Clock + Sync>(
     rt: &T,
     alloc: Global,
@@ -125,12 +150,10 @@ fn looks_of<T: Threads + Wait + Sync, K: Clock + Sync>(
     settings: Settings,
     workers: usize,
     from: usize,
-    end: usize,
+    share: &Share,
 ) -> Vec<Look>
     ensures { AreOfPlaces settings bays.now result.items }
 {
-    let first = AtomicUsize::new(from);
-    let next = &first;
     let lists = thread::map_indices(
         rt,
         alloc,
@@ -138,7 +161,7 @@ fn looks_of<T: Threads + Wait + Sync, K: Clock + Sync>(
         &|_worker: usize| -> Vec<Look>
             requires { IsSync T.row × IsSync K.row }
             ensures { AreOfPlaces settings bays.entry.now result.items }
-        { look_on(rt, alloc, timer, bays, settings, next, end) },
+        { look_on(rt, alloc, timer, bays, settings, from, share) },
     );
     let Ok(lists) = lists else {
         return Vec::new(alloc);
@@ -158,7 +181,8 @@ impl Looks {
     }
 
     /// Where nobody has looked at the last of these bays yet, so many workers look at it and at those before it: at one each at first,
-    /// then at as many in all as are done, and at 64 each at most.
+    /// then at three times as many in all as are done, and at 64 each at most; at fewer where their certificates are long. Where fewer
+    /// bays than workers are left, nobody does.
     pub(crate) fn go_on<T: Threads + Wait + Sync, K: Clock + Sync>(
         &mut self,
         rt: &T,
@@ -172,13 +196,25 @@ impl Looks {
         ensures { (others : List Stated) → AreOfPlaces settings (bays.now ++ others) self.old.found.items → AreOfPlaces settings (bays.now ++ others) self.new.found.items }
     {
         let end = bays.len();
-        if workers < 2 || end < 2 || end > self.from {
+        if workers < 2 || end < workers || end > self.from {
             return;
         }
-        let count = done.saturating_add(workers);
-        self.from = end.saturating_sub(count.min(workers.saturating_mul(AHEAD)));
-        let threads = workers.min(end);
-        self.found = looks_of(rt, alloc, timer, bays, settings, threads, self.from, end);
+        let count = done
+            .saturating_mul(3)
+            .saturating_add(workers)
+            .min(workers.saturating_mul(AHEAD));
+        let from = end.saturating_sub(count);
+        let share = Share {
+            next: AtomicUsize::new(end),
+            bytes: AtomicUsize::new(0),
+        };
+        self.found = looks_of(rt, alloc, timer, bays, settings, workers, from, &share);
+        let reached = share.next.load(Ordering::SeqCst);
+        self.from = if reached > end {
+            from
+        } else {
+            reached.max(from)
+        };
     }
 
     /// The answer to the bay at this place, if a look found it. It is given once.

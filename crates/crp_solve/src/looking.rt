@@ -1,4 +1,4 @@
-//! A look at a problem: the answer where one worker finds it within few expansions.
+//! A look at a problem: the answer that one worker finds, where it finds one within so many expansions.
 ghost use Rattle.std.specs.Prelude.{◌≡◌, ◌≤◌, true, IfSome};
 ghost use Rattle.crp_solve.specs.Solved.{IsSolved, SpendsWithin, WasStopped};
 
@@ -6,7 +6,6 @@ use crate::answer::{Answer, Cause, Second, Solved};
 use crate::settings::Settings;
 use crate::solver::solve;
 use crate::workers::common::{Gate, Quiet};
-use crate::workers::for_look;
 use crp_incumbent::Board;
 use crp_plan::Problem;
 use std::alloc::Global;
@@ -33,19 +32,20 @@ fn ran_short(solved: &Solved) -> bool {
     of_first || solved.second == Second::Memory
 }
 
-/// What `solve` answers, where one worker finds that in a look of at most 4096 expansions a search; none where it takes more, or memory
-/// ran out. It may be called in several threads at once, for a bay each. The gate hears nothing, but may stop it.
+/// What one worker answers within so many expansions a search, where that is an answer for the whole budget; none where it takes more, or
+/// memory ran out. So a caller with many problems may have a worker look at each. The gate hears nothing, but may stop it.
 pub fn look<R: Threads + Wait + Sync, G: Gate + Sync>(
     rt: &R,
     alloc: Global,
     problem: &Problem,
     settings: Settings,
+    most: u64,
     gate: &G,
 ) -> Option<Solved>
     ensures solved { IfSome result (IsSolved problem.now settings) }
     ensures stops { IfSome result (λ solved. WasStopped solved → G.may_stop gate.now) }
 {
-    let few = for_look(settings);
+    let few = settings.for_one(settings.budget().min(most));
     let board = Board::new(problem);
     let quiet = Quiet::of(gate);
     let Ok(solved) = solve(rt, alloc, problem, few, &board, &quiet) else {

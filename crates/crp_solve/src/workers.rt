@@ -33,21 +33,14 @@ use std::thread::Threads;
 /// The most expansions of the worker that looks first.
 const LOOK: u64 = 4096;
 
-/// The settings with which one worker looks first.
-pub(crate) fn for_look(settings: Settings) -> Settings
-    ensures { result ≡ record settings { workers = 1; budget = min settings.budget 4096 } }
-{
-    settings.for_one(settings.budget().min(LOOK))
-}
-
-/// The same; none where the gate asks for no look, or one worker is all there is.
+/// The settings with which one worker looks first; none where the gate asks for no look, or one worker is all there is.
 pub(crate) fn look_of<G: Gate>(gate: &G, settings: Settings) -> Option<Settings>
     ensures { IfSome result (λ look. look ≡ record settings { workers = 1; budget = min settings.budget 4096 }) }
 {
     if settings.workers() == 1 || !gate.looks_first() {
         return None;
     }
-    Some(for_look(settings))
+    Some(settings.for_one(settings.budget().min(LOOK)))
 }
 
 /// How many workers are of use, of so many at most, where so many names wait: all of them, since a part gives more names away while a

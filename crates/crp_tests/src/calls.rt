@@ -25,20 +25,24 @@ pub(crate) fn bound<R: Source, W: Sink>(
     crp_commands::bound(alloc, reader, writer, false)
 }
 
-pub(crate) fn check<R: Source, W: Sink>(
+pub(crate) fn check<T: Threads + Wait + Sync, R: Source, W: Sink>(
+    rt: &T,
     alloc: Global,
     reader: &mut R,
     writer: &mut W,
+    workers: u32,
 ) -> Result<Status, ToolFault> {
-    crp_commands::check(alloc, reader, writer, &mut Nowhere, false)
+    crp_commands::check(rt, alloc, reader, writer, &mut Nowhere, false, workers)
 }
 
-pub(crate) fn check_any<R: Source, W: Sink>(
+pub(crate) fn check_any<T: Threads + Wait + Sync, R: Source, W: Sink>(
+    rt: &T,
     alloc: Global,
     reader: &mut R,
     writer: &mut W,
+    workers: u32,
 ) -> Result<Status, ToolFault> {
-    crp_commands::check(alloc, reader, writer, &mut Nowhere, true)
+    crp_commands::check(rt, alloc, reader, writer, &mut Nowhere, true, workers)
 }
 
 pub(crate) fn prove<T: Threads + Wait + Sync, R: Source, W: Sink>(

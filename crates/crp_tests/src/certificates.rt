@@ -9,7 +9,9 @@ use crp_plan::Received;
 use crp_report::Status;
 use std::alloc::Global;
 use std::process::Abort;
+use std::sync::Wait;
 use std::test::Fail;
+use std::thread::Threads;
 
 const SIX_CONTAINERS: &[u8] =
     b"CRP-CERT 1\nbay A 1\nsize 3 3 6 6\nrow 1 5 4\nrow 6\nrow 3 2\nat least 3\nplan 2 2 1\npart /: XLB\nend 1\n";
@@ -22,14 +24,23 @@ const PART_LINE: usize = 78;
 const END_LINE: usize = 90;
 
 // What `check` writes, or its fault after what it wrote.
-fn checked(alloc: Global, mut text: &[u8]) -> (Vec<u8>, Result<Status, ToolFault>) {
+fn checked<T: Threads + Wait + Sync>(
+    rt: &T,
+    alloc: Global,
+    mut text: &[u8],
+) -> (Vec<u8>, Result<Status, ToolFault>) {
     let mut sink = Received::new(alloc);
-    let answer = check(alloc, &mut text, &mut sink);
+    let answer = check(rt, alloc, &mut text, &mut sink, 1);
     (sink.bytes, answer)
 }
 
-// What `check` writes where its source fails after these bytes, and its answer.
-fn checked_until_failed(alloc: Global, rest: &[u8]) -> (Vec<u8>, Result<Status, ToolFault>) {
+// What `check` with so many workers writes where its source fails after these bytes, and its answer.
+fn checked_until_failed<T: Threads + Wait + Sync>(
+    rt: &T,
+    alloc: Global,
+    rest: &[u8],
+    workers: u32,
+) -> (Vec<u8>, Result<Status, ToolFault>) {
     let mut sink = Received::new(alloc);
     let mut source = Slow {
         interrupted: 0,
@@ -37,7 +48,7 @@ fn checked_until_failed(alloc: Global, rest: &[u8]) -> (Vec<u8>, Result<Status, 
         fails: true,
         failed: 0,
     };
-    let answer = check(alloc, &mut source, &mut sink);
+    let answer = check(rt, alloc, &mut source, &mut sink, workers);
     (sink.bytes, answer)
 }
 
@@ -51,17 +62,19 @@ fn some_certificates(alloc: Global, whole: usize, front: usize) -> Result<Vec<u8
     Ok(text)
 }
 
-// However much of the next certificate comes before the read fails, these lines are written for the whole ones.
+// However much of the next certificate comes before the read fails, these lines are written for the whole ones, by any number of workers.
 fn assert_lines_before(
-    rt: &(impl Abort + AllocGlobal),
+    rt: &(impl Abort + AllocGlobal + Threads + Wait + Sync),
     whole: usize,
     lines: &[u8],
 ) -> Result<(), Fail> {
     for front in 0..SIX_CONTAINERS.len() {
         let text = some_certificates(rt.alloc(), whole, front)?;
-        let (written, answer) = checked_until_failed(rt.alloc(), &text);
-        assert_same_at(rt, &answer, &Err(ToolFault::Read), &front);
-        assert_same_at(rt, &written.as_slice(), &lines, &front);
+        for workers in [1, 3] {
+            let (written, answer) = checked_until_failed(rt, rt.alloc(), &text, workers);
+            assert_same_at(rt, &answer, &Err(ToolFault::Read), &front);
+            assert_same_at(rt, &written.as_slice(), &lines, &front);
+        }
     }
     Ok(())
 }
@@ -118,8 +131,8 @@ fn is_cut(answer: &Result<Status, ToolFault>, length: usize) -> bool {
     }
 }
 
-fn assert_cut(rt: &(impl Abort + AllocGlobal), front: &[u8]) {
-    let (written, answer) = checked(rt.alloc(), front);
+fn assert_cut(rt: &(impl Abort + AllocGlobal + Threads + Wait + Sync), front: &[u8]) {
+    let (written, answer) = checked(rt, rt.alloc(), front);
     let length = front.len();
     assert_at(rt, written.is_empty(), &length);
     assert_at(rt, is_cut(&answer, length), &length);
@@ -162,7 +175,7 @@ fn changed_fault(place: usize) -> CertFault {
 
 // The certificate with this byte at this place is refused, or accepted under another name of its block.
 fn assert_changed(
-    rt: &(impl Abort + AllocGlobal),
+    rt: &(impl Abort + AllocGlobal + Threads + Wait + Sync),
     place: usize,
     byte: u8,
     line: &[u8],
@@ -171,7 +184,7 @@ fn assert_changed(
     if let Some(changed) = text.get_mut(place) {
         *changed = byte;
     }
-    let (written, answer) = checked(rt.alloc(), text.as_slice());
+    let (written, answer) = checked(rt, rt.alloc(), text.as_slice());
     let refused = ToolFault::Checked {
         number: 1,
         refused: Refused::Cert(changed_fault(place)),

@@ -67,7 +67,7 @@ fn ended<T: Threads + Wait + Sync>(
     let answer = match command {
         Command::Replay => replay(alloc, &mut source, &mut sink),
         Command::Bound => bound(alloc, &mut source, &mut sink),
-        Command::Check => check(alloc, &mut source, &mut sink),
+        Command::Check => check(rt, alloc, &mut source, &mut sink, 1),
         Command::Prove => {
             let settings = Settings::new(1, 1000000, 0)?;
             prove(rt, alloc, &mut source, &mut sink, settings)

@@ -132,7 +132,7 @@ fn a_file_with_as_many_bytes_as_are_checked(rt: HostRuntime) -> Result<(), Fail>
     assert_same(&rt, &MOST_BYTES, &268435456);
     let mut lines = Lines { all: 0, right: 0 };
     let mut source = Long::of(MANY, 268435456);
-    let answer = check(rt.alloc(), &mut source, &mut lines);
+    let answer = check(&rt, rt.alloc(), &mut source, &mut lines, 1);
     assert_same(&rt, &answer, &Ok(Status::Decided));
     assert_same(&rt, &(lines.all, lines.right), &(808542, 808540));
     Ok(())
@@ -161,7 +161,7 @@ fn one_byte_more_is_too_large(rt: HostRuntime) -> Result<(), Fail> {
     for (pieces, length, fault) in TOO_LONG {
         let mut lines = Lines { all: 0, right: 0 };
         let mut source = Long::of(pieces, length);
-        let answer = check(rt.alloc(), &mut source, &mut lines);
+        let answer = check(&rt, rt.alloc(), &mut source, &mut lines, 1);
         assert_same_at(&rt, &answer, &Err(fault), &length);
         assert_same_at(&rt, &lines.all, &1, &length);
     }
@@ -172,7 +172,7 @@ fn one_byte_more_is_too_large(rt: HostRuntime) -> Result<(), Fail> {
 fn a_file_of_any_size(rt: HostRuntime) -> Result<(), Fail> {
     let mut lines = Lines { all: 0, right: 0 };
     let mut source = Long::of(ONE_MORE, 268435457);
-    let answer = check_any(rt.alloc(), &mut source, &mut lines);
+    let answer = check_any(&rt, rt.alloc(), &mut source, &mut lines, 1);
     assert_same(&rt, &answer, &Err(REFUSED));
     assert_same(&rt, &lines.all, &1);
     Ok(())

@@ -73,6 +73,7 @@ fn followed_to<R: Source, P: Sink, W: Sink>(
         list,
         loaded: None,
         partial: false,
+        summary: false,
     };
     let mut listed = Listed {
         yard,

@@ -15,7 +15,7 @@ absent_asks : (rows : List Row) (j : Job) → Asks (codes "absent") rows j → �
 absent_asks rows (job.OneFile file command.Replay stop) asks = absurd (other_name 97 114 _ _ (omega arith) asks.0)
 absent_asks rows (job.OneFile file command.Rewrite stop) asks = absurd (other_name 97 114 _ _ (omega arith) asks.0)
 absent_asks rows (job.OneFile file (command.Bound chains) stop) asks = absurd (other_name 97 98 _ _ (omega arith) asks.0.0)
-absent_asks rows (job.OneFile file (command.Check any_size) stop) asks = absurd (other_name 97 99 _ _ (omega arith) asks.0.0)
+absent_asks rows (job.OneFile file (command.Check any_size workers) stop) asks = absurd (other_name 97 99 _ _ (omega arith) asks.0.0)
 absent_asks rows (job.OneFile file (command.Prove search) stop) asks = absurd (other_name 97 112 _ _ (omega arith) asks.0.0)
 absent_asks rows (job.Absent names settings) asks = (asks.1, (settings, asks.3))
 absent_asks rows (job.Audit names settings) asks = absurd (other_second 97 98 117 _ _ (omega arith) asks.0)
@@ -27,13 +27,14 @@ absent_fault rows f (inl (is, first)) = absurd (other_name 97 112 _ _ (omega ari
 absent_fault rows f (inr (inl (is, first))) = absurd (other_name 97 115 _ _ (omega arith) is)
 absent_fault rows f (inr (inr (inl (is, first)))) = absurd (other_second 97 98 117 _ _ (omega arith) is)
 absent_fault rows f (inr (inr (inr (inl (is, first))))) = absurd (other_name 97 102 _ _ (omega arith) is)
-absent_fault rows f (inr (inr (inr (inr (is, first))))) = first
+absent_fault rows f (inr (inr (inr (inr (inl (is, first)))))) = first
+absent_fault rows f (inr (inr (inr (inr (inr (is, first)))))) = absurd (other_name 97 99 _ _ (omega arith) is)
 
 -- without an input absent asks for nothing
 pub no_absent : (rows : List Row) (u : Usage) → ¬ IsSizedTwice rows → Lacks (HasInput rows) (IsInputFault rows) u
     → Lacks (Asks (codes "absent") rows) (IsFault (codes "absent") rows) u
 no_absent rows u once = lacks_more (HasInput rows) (Asks (codes "absent") rows) (IsInputFault rows) (IsFault (codes "absent") rows) u
-    (λ j asks. (absent_asks rows j asks).1) (λ f first. inr (inr (inr (inr (refl, (once, first)))))) (λ f first. inl (absent_fault rows f first).1)
+    (λ j asks. (absent_asks rows j asks).1) (λ f first. inr (inr (inr (inr (inl (refl, (once, first))))))) (λ f first. inl (absent_fault rows f first).1)
 
 -- nor does it where its size is given twice
 pub absent_sized_twice : (rows : List Row) (u : Usage) → IsSizedTwice rows → IsWordsOrMemory u

@@ -17,7 +17,7 @@ follow_asks : (rows : List Row) (j : Job) → Asks (codes "follow") rows j
 follow_asks rows (job.OneFile file command.Replay stop) asks = absurd (other_name 102 114 _ _ (omega arith) asks.0)
 follow_asks rows (job.OneFile file command.Rewrite stop) asks = absurd (other_name 102 114 _ _ (omega arith) asks.0)
 follow_asks rows (job.OneFile file (command.Bound chains) stop) asks = absurd (other_name 102 98 _ _ (omega arith) asks.0.0)
-follow_asks rows (job.OneFile file (command.Check any_size) stop) asks = absurd (other_name 102 99 _ _ (omega arith) asks.0.0)
+follow_asks rows (job.OneFile file (command.Check any_size workers) stop) asks = absurd (other_name 102 99 _ _ (omega arith) asks.0.0)
 follow_asks rows (job.OneFile file (command.Prove search) stop) asks = absurd (other_name 102 112 _ _ (omega arith) asks.0.0)
 follow_asks rows (job.Absent names settings) asks = absurd (other_name 102 97 _ _ (omega arith) asks.0)
 follow_asks rows (job.Audit names settings) asks = absurd (other_name 102 97 _ _ (omega arith) asks.0)
@@ -30,7 +30,8 @@ follow_fault rows f (inl (is, first)) = absurd (other_name 102 112 _ _ (omega ar
 follow_fault rows f (inr (inl (is, first))) = absurd (other_name 102 115 _ _ (omega arith) is)
 follow_fault rows f (inr (inr (inl (is, first)))) = absurd (other_name 102 97 _ _ (omega arith) is)
 follow_fault rows f (inr (inr (inr (inl (is, first))))) = first
-follow_fault rows f (inr (inr (inr (inr (is, first))))) = absurd (other_name 102 97 _ _ (omega arith) is)
+follow_fault rows f (inr (inr (inr (inr (inl (is, first)))))) = absurd (other_name 102 97 _ _ (omega arith) is)
+follow_fault rows f (inr (inr (inr (inr (inr (is, first)))))) = absurd (other_name 102 99 _ _ (omega arith) is)
 
 -- without an input follow asks for nothing
 pub no_follow : (rows : List Row) (u : Usage) → AreFollowWordsClear rows → Lacks (HasInput rows) (IsInputFault rows) u

@@ -108,7 +108,7 @@ no_own id most strong rows given u own = lacks_more (HasNumberWithin id 0 most r
 
 -- ---- a number within its limits is no fault
 
-no_workers_fault : (rows : List Row) (n : ℕ) → HasWorkers rows n → AreWorkersBeyond rows → ⊥
+pub no_workers_fault : (rows : List Row) (n : ℕ) → HasWorkers rows n → AreWorkersBeyond rows → ⊥
 no_workers_fault rows n has beyond = not_both (codes "workers") 1 64 rows n has beyond
 
 no_budget_fault : (rows : List Row) (n : ℕ) → HasBudget rows n → IsBudgetBeyond rows → ⊥
@@ -379,7 +379,7 @@ audit_asks : (rows : List Row) (j : Job) → Asks (codes "audit") rows j → ¬ 
 audit_asks rows (job.OneFile file command.Replay stop) asks = absurd (other_name 97 114 _ _ (omega arith) asks.0)
 audit_asks rows (job.OneFile file command.Rewrite stop) asks = absurd (other_name 97 114 _ _ (omega arith) asks.0)
 audit_asks rows (job.OneFile file (command.Bound chains) stop) asks = absurd (other_name 97 98 _ _ (omega arith) asks.0.0)
-audit_asks rows (job.OneFile file (command.Check any_size) stop) asks = absurd (other_name 97 99 _ _ (omega arith) asks.0.0)
+audit_asks rows (job.OneFile file (command.Check any_size workers) stop) asks = absurd (other_name 97 99 _ _ (omega arith) asks.0.0)
 audit_asks rows (job.OneFile file (command.Prove search) stop) asks = absurd (other_name 97 112 _ _ (omega arith) asks.0.0)
 audit_asks rows (job.Absent names settings) asks = absurd (other_second 97 117 98 _ _ (omega arith) asks.0)
 audit_asks rows (job.Audit names settings) asks = (asks.1, (settings, asks.3))
@@ -391,7 +391,8 @@ audit_fault rows f (inl (is, first)) = absurd (other_name 97 112 _ _ (omega arit
 audit_fault rows f (inr (inl (is, first))) = absurd (other_name 97 115 _ _ (omega arith) is)
 audit_fault rows f (inr (inr (inl (is, first)))) = first
 audit_fault rows f (inr (inr (inr (inl (is, first))))) = absurd (other_name 97 102 _ _ (omega arith) is)
-audit_fault rows f (inr (inr (inr (inr (is, first))))) = absurd (other_second 97 117 98 _ _ (omega arith) is)
+audit_fault rows f (inr (inr (inr (inr (inl (is, first)))))) = absurd (other_second 97 117 98 _ _ (omega arith) is)
+audit_fault rows f (inr (inr (inr (inr (inr (is, first)))))) = absurd (other_name 97 99 _ _ (omega arith) is)
 
 -- without an input audit asks for nothing
 pub no_audit : (rows : List Row) (u : Usage) → ¬ IsSizedTwice rows → Lacks (HasInput rows) (IsInputFault rows) u

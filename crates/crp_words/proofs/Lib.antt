@@ -7,6 +7,7 @@ pub mod Lacking
 pub mod TimeLacking
 pub mod SolveLacking
 pub mod AbsentLacking
+pub mod CheckLacking
 pub mod FollowLacking
 pub mod CommandLine
 pub mod Ended

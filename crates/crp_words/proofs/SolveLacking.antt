@@ -57,7 +57,7 @@ prove_asks : (rows : List Row) (j : Job) → Asks (codes "prove") rows j → ((s
 prove_asks rows (job.OneFile file command.Replay stop) asks = absurd (other_name 112 114 _ _ (omega arith) asks.0)
 prove_asks rows (job.OneFile file command.Rewrite stop) asks = absurd (other_name 112 114 _ _ (omega arith) asks.0)
 prove_asks rows (job.OneFile file (command.Bound chains) stop) asks = absurd (other_name 112 98 _ _ (omega arith) asks.0.0)
-prove_asks rows (job.OneFile file (command.Check any_size) stop) asks = absurd (other_name 112 99 _ _ (omega arith) asks.0.0)
+prove_asks rows (job.OneFile file (command.Check any_size workers) stop) asks = absurd (other_name 112 99 _ _ (omega arith) asks.0.0)
 prove_asks rows (job.OneFile file (command.Prove search) stop) asks = ((search, asks.0.1), (file.now, asks.1))
 prove_asks rows (job.Absent names settings) asks = absurd (other_name 112 97 _ _ (omega arith) asks.0)
 prove_asks rows (job.Audit names settings) asks = absurd (other_name 112 97 _ _ (omega arith) asks.0)
@@ -70,7 +70,8 @@ prove_fault rows f (inl (is, first)) = first
 prove_fault rows f (inr (inl (is, first))) = absurd (other_name 112 115 _ _ (omega arith) is)
 prove_fault rows f (inr (inr (inl (is, first)))) = absurd (other_name 112 97 _ _ (omega arith) is)
 prove_fault rows f (inr (inr (inr (inl (is, first))))) = absurd (other_name 112 102 _ _ (omega arith) is)
-prove_fault rows f (inr (inr (inr (inr (is, first))))) = absurd (other_name 112 97 _ _ (omega arith) is)
+prove_fault rows f (inr (inr (inr (inr (inl (is, first)))))) = absurd (other_name 112 97 _ _ (omega arith) is)
+prove_fault rows f (inr (inr (inr (inr (inr (is, first)))))) = absurd (other_name 112 99 _ _ (omega arith) is)
 
 -- without settings of a search prove asks for nothing
 pub no_prove : (rows : List Row) (u : Usage) → Lacks (HasUntimed rows) (IsSearchFault rows) u
@@ -108,7 +109,7 @@ solve_asks : (rows : List Row) (j : Job) → Asks (codes "solve") rows j
 solve_asks rows (job.OneFile file command.Replay stop) asks = absurd (other_name 115 114 _ _ (omega arith) asks.0)
 solve_asks rows (job.OneFile file command.Rewrite stop) asks = absurd (other_name 115 114 _ _ (omega arith) asks.0)
 solve_asks rows (job.OneFile file (command.Bound chains) stop) asks = absurd (other_name 115 98 _ _ (omega arith) asks.0.0)
-solve_asks rows (job.OneFile file (command.Check any_size) stop) asks = absurd (other_name 115 99 _ _ (omega arith) asks.0.0)
+solve_asks rows (job.OneFile file (command.Check any_size workers) stop) asks = absurd (other_name 115 99 _ _ (omega arith) asks.0.0)
 solve_asks rows (job.OneFile file (command.Prove search) stop) asks = absurd (other_name 115 112 _ _ (omega arith) asks.0.0)
 solve_asks rows (job.Absent names settings) asks = absurd (other_name 115 97 _ _ (omega arith) asks.0)
 solve_asks rows (job.Audit names settings) asks = absurd (other_name 115 97 _ _ (omega arith) asks.0)
@@ -120,7 +121,8 @@ solve_fault rows f (inl (is, first)) = absurd (other_name 115 112 _ _ (omega ari
 solve_fault rows f (inr (inl (is, first))) = first
 solve_fault rows f (inr (inr (inl (is, first)))) = absurd (other_name 115 97 _ _ (omega arith) is)
 solve_fault rows f (inr (inr (inr (inl (is, first))))) = absurd (other_name 115 102 _ _ (omega arith) is)
-solve_fault rows f (inr (inr (inr (inr (is, first))))) = absurd (other_name 115 97 _ _ (omega arith) is)
+solve_fault rows f (inr (inr (inr (inr (inl (is, first)))))) = absurd (other_name 115 97 _ _ (omega arith) is)
+solve_fault rows f (inr (inr (inr (inr (inr (is, first)))))) = absurd (other_name 115 99 _ _ (omega arith) is)
 
 -- without settings solve asks for nothing
 pub no_solve : (rows : List Row) (u : Usage) → ¬ IsSizedTwice rows → ¬ IsNamedTwice rows → Lacks (HasSettings rows) (IsSolveFault rows) u

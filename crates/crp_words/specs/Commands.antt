@@ -84,6 +84,10 @@ progress_rule = flag_rule (codes "progress")
 abbrev pub partial_rule : Rule
 partial_rule = flag_rule (codes "partial")
 
+-- whether the table is that of the bays: it is that of the moves where the flag is not given
+abbrev pub summary_rule : Rule
+summary_rule = flag_rule (codes "summary")
+
 -- the beam: none where it is not given
 abbrev pub beam_rule : Rule
 beam_rule = number_rule (codes "beam") (codes "0")
@@ -173,13 +177,17 @@ with_after shape = with_option (optional_number_rule (codes "loaded")) (with_opt
 abbrev pub with_partial : Shape → Shape
 with_partial shape = with_option partial_rule shape
 
+-- a command with [--summary]
+abbrev pub with_summary : Shape → Shape
+with_summary shape = with_option summary_rule shape
+
 -- bound FILE [--chains]
 abbrev pub bound : Shape
 bound = with_option chains_rule (leaf (codes "bound"))
 
--- check FILE [--any-size]
+-- check FILE [--any-size] [--workers N]
 abbrev pub check : Shape
-check = with_option (flag_rule (codes "any-size")) (leaf (codes "check"))
+check = with_option workers_rule (with_option (flag_rule (codes "any-size")) (leaf (codes "check")))
 
 -- prove FILE, with the options of a search
 abbrev pub prove : Shape
@@ -206,9 +214,10 @@ audit = with_partial (with_bays (with_size audit_files))
 abbrev pub follow_files : Shape
 follow_files = command (codes "follow") (file_rule (codes "yard") ∷ file_rule (codes "report") ∷ more_rule (codes "movins") ∷ [])
 
--- follow, with its options: the size of the bays, the order of leaving, the page, the yard after, and whether the report may end early
+-- follow, with its options: the size of the bays, the order of leaving, the page, the yard after, whether the report may end early, and whether the table is
+-- that of the bays
 abbrev pub follow : Shape
-follow = with_partial (with_after (with_page (with_bays (with_size follow_files))))
+follow = with_summary (with_partial (with_after (with_page (with_bays (with_size follow_files)))))
 
 -- absent YARD MOVINS, without its options
 abbrev pub absent_files : Shape

@@ -287,6 +287,10 @@ HasAbsentFiles found names = HasText (codes "yard") found names.yard.now × HasT
 abbrev pub MayEndEarly : List Row → Bool → Type 0
 MayEndEarly found partial = IsTrue partial ↔ IsGivenByWords (codes "partial") found
 
+-- the table is that of the bays exactly where the words give the flag
+abbrev pub IsOfBays : List Row → Bool → Type 0
+IsOfBays found summary = IsTrue summary ↔ IsGivenByWords (codes "summary") found
+
 -- the files of audit that were found, and the list of sizes, if there is one; and whether the report may end early
 abbrev pub HasAuditFiles : List Row → AuditFiles → Type 0
 HasAuditFiles found names = HasText (codes "yard") found names.yard.now × HasText (codes "movins") found names.movins.now
@@ -299,12 +303,12 @@ MayNameAfter found None = first_of (codes "after") found ≡ None
 MayNameAfter found (Some file) = HasText (codes "after") found file.name.now × MayHaveNumber (codes "loaded") found file.loaded
 
 -- the files of follow that were found: the yard list and the report, the message and the list of sizes, if there are any, and the page and the yard after,
--- if they are wanted; and whether the report may end early
+-- if they are wanted; whether the report may end early; and whether the table is that of the bays
 abbrev pub HasFollowFiles : List Row → FollowFiles → Type 0
 HasFollowFiles found names = HasText (codes "yard") found names.yard.now × HasText (codes "report") found names.report.now
     × (first_of (codes "movins") found ≡ option_map (λ text. text.now) names.movins)
     × (first_of (codes "page") found ≡ option_map (λ text. text.now) names.page) × MayNameSizes found names.sizes × MayNameAfter found names.after
-    × MayEndEarly found names.partial
+    × MayEndEarly found names.partial × IsOfBays found names.summary
 
 -- the name of a file without `./` in front
 abbrev pub plain_name : Text → Text
@@ -366,7 +370,7 @@ AreFollowWordsClear found = ¬ IsSizedTwice found × ¬ IsOrderedAlone found × 
 abbrev pub AsksCommand : Text → List Row → FileCommand → Type 0
 AsksCommand name found command.Replay = name ≡ codes "replay"
 AsksCommand name found (command.Bound chains) = (name ≡ codes "bound") × MayWriteChains found chains
-AsksCommand name found (command.Check any_size) = (name ≡ codes "check") × MayBeAnySize found any_size
+AsksCommand name found (command.Check any_size workers) = (name ≡ codes "check") × MayBeAnySize found any_size × HasWorkers found workers
 AsksCommand name found (command.Prove search) = (name ≡ codes "prove") × HasSearch found search
 AsksCommand name found command.Rewrite = name ≡ codes "rewrite"
 
@@ -422,12 +426,17 @@ IsInputOrTimeFault found f = IsInputFault found f ⊎ (((s : InputChosen) × Has
 abbrev pub IsSolveFault : List Row → SettingFault → Type 0
 IsSolveFault found f = IsSearchFault found f ⊎ (((s : Chosen) × HasUntimed found s) × IsInputOrTimeFault found f)
 
+-- the fault is this one, and it is there
+abbrev pub IsJust : SettingFault → Type 0 → SettingFault → Type 0
+IsJust given there f = (f ≡ given) × there
+
 -- the first setting of the command beyond its limits
 abbrev pub IsFault : Text → List Row → SettingFault → Type 0
 IsFault name found f = ((name ≡ codes "prove") × IsProveFault found f) ⊎ (((name ≡ codes "solve") × (¬ IsSizedTwice found × ¬ IsNamedTwice found × IsSolveFault found f))
     ⊎ (((name ≡ codes "audit") × (¬ IsSizedTwice found × IsInputFault found f))
     ⊎ (((name ≡ codes "follow") × (AreFollowWordsClear found × IsInputFault found f))
-    ⊎ ((name ≡ codes "absent") × (¬ IsSizedTwice found × IsInputFault found f)))))
+    ⊎ (((name ≡ codes "absent") × (¬ IsSizedTwice found × IsInputFault found f))
+    ⊎ ((name ≡ codes "check") × IsJust setting.Workers (AreWorkersBeyond found) f)))))
 
 -- the command, if there is one, and its rows ask for this
 abbrev pub AsksFor : Option (Text × List Row) → Job → Type 0
@@ -477,10 +486,6 @@ Lacks {X} Has IsFirst (usage.Wrong m) = ((x : X) → Has x → ⊥) × NamesFirs
 -- no setting is beyond its limits
 abbrev pub NoFault : SettingFault → Type 0
 NoFault f = ⊥
-
--- the fault is this one, and it is there
-abbrev pub IsJust : SettingFault → Type 0 → SettingFault → Type 0
-IsJust given there f = (f ≡ given) × there
 
 -- the refusal is by words, or because memory ran out
 abbrev pub IsWordsOrMemory : Usage → Type 0

@@ -1,11 +1,11 @@
 //! The command line: each command with its files and options.
 ghost use Rattle.std.specs.Prelude.{◌≡◌, IfOk};
 ghost use Rattle.clap.specs.Words.{App, app_of, with_subcommand};
-ghost use Rattle.crp_words.specs.Commands.{IsArg, IsCommand, absent as absent_shape, absent_files as absent_files_shape, alone, audit as audit_shape, audit_files as audit_files_shape, crp, file_rule, flag_rule, follow as follow_shape, follow_files as follow_files_shape, leaf as leaf_shape, leaves, more_rule, prove as prove_shape, rewrite as rewrite_shape, solve as solve_shape, solve_files as solve_files_shape, top_command as top_shape, with_option};
+ghost use Rattle.crp_words.specs.Commands.{IsArg, IsCommand, absent as absent_shape, absent_files as absent_files_shape, alone, audit as audit_shape, audit_files as audit_files_shape, check as check_shape, crp, file_rule, flag_rule, follow as follow_shape, follow_files as follow_files_shape, leaf as leaf_shape, leaves, more_rule, prove as prove_shape, rewrite as rewrite_shape, solve as solve_shape, solve_files as solve_files_shape, top_command as top_shape, with_option};
 
 use crate::options::{
     flag, with_after, with_bays, with_orders, with_outputs, with_page, with_partial, with_search,
-    with_searches, with_size,
+    with_searches, with_size, with_summary, workers,
 };
 use clap::{Arg, Command};
 use std::alloc::{AllocError, Global};
@@ -169,7 +169,8 @@ fn follow<'a>(alloc: Global) -> Result<Command<'a>, AllocError>
     let ordered = with_bays(alloc, sized)?;
     let paged = with_page(alloc, ordered)?;
     let left = with_after(alloc, paged)?;
-    with_partial(alloc, left)
+    let early = with_partial(alloc, left)?;
+    with_summary(alloc, early)
 }
 
 // crp itself, without its commands.
@@ -197,6 +198,24 @@ fn with_leaf<'a>(
     line.subcommand(leaf(alloc, name, about, help)?)
 }
 
+// The command `check`.
+fn check<'a>(alloc: Global) -> Result<Command<'a>, AllocError>
+    ensures { IfOk result (IsCommand check_shape) }
+{
+    let command = leaf_with_flag(
+        alloc,
+        "check",
+        "Check a file of certificates",
+        "Certificates, or - for the standard input",
+        "any-size",
+        "Take more than 268435456 bytes too",
+    )?;
+    command.arg(workers(
+        alloc,
+        "Workers that check certificates side by side, 1 to 64",
+    ))
+}
+
 // crp with the commands that take a file, and no option of a search.
 fn with_leaves<'a>(alloc: Global) -> Result<Command<'a>, AllocError>
     ensures { IfOk result (λ line. app_of line ≡ leaves) }
@@ -216,14 +235,7 @@ fn with_leaves<'a>(alloc: Global) -> Result<Command<'a>, AllocError>
         "chains",
         "Print also one by chains of containers that block, with their ranks",
     )?)?
-    .subcommand(leaf_with_flag(
-        alloc,
-        "check",
-        "Check a file of certificates",
-        "Certificates, or - for the standard input",
-        "any-size",
-        "Take more than 268435456 bytes too",
-    )?)
+    .subcommand(check(alloc)?)
 }
 
 // The command `rewrite`.

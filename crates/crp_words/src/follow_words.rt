@@ -104,6 +104,7 @@ pub(crate) fn follow_of<'a>(alloc: Global, matches: &ArgMatches<'a>) -> Result<J
         sizes: matches.get_str("sizes"),
         report,
         partial: is_given(matches, "partial"),
+        summary: is_given(matches, "summary"),
         movins: matches.get_str("movins"),
         page: matches.get_str("page"),
         after,

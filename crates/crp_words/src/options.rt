@@ -1,7 +1,7 @@
 //! The options of the command line.
 ghost use Rattle.std.specs.Prelude.{◌≡◌, IfOk};
 ghost use Rattle.clap.specs.Words.{Shape};
-ghost use Rattle.crp_words.specs.Commands.{IsArg, IsCommand, beam_rule, budget_rule, chains_rule, deepen_rule, first_rule, flag_rule, number_rule, optional_number_rule, optional_rule, progress_rule, quiet_rule, repeated_rule, seconds_rule, split_rule, stop_rule, strong_rule, text_rule, thin_rule, total_seconds_rule, with_after, with_bays, with_orders, with_outputs, with_page, with_partial, with_search, with_searches, with_size, with_ways, workers_rule};
+ghost use Rattle.crp_words.specs.Commands.{IsArg, IsCommand, beam_rule, budget_rule, chains_rule, deepen_rule, first_rule, flag_rule, number_rule, optional_number_rule, optional_rule, progress_rule, quiet_rule, repeated_rule, seconds_rule, split_rule, stop_rule, strong_rule, text_rule, thin_rule, total_seconds_rule, with_after, with_bays, with_orders, with_outputs, with_page, with_partial, with_search, with_searches, with_size, with_summary, with_ways, workers_rule};
 
 use clap::{Arg, ArgAction, Command, value_parser};
 use std::alloc::{AllocError, Global};
@@ -73,15 +73,11 @@ pub(crate) fn flag<'a>(alloc: Global, name: &'a str, help: &'a str) -> Arg<'a>
         .help(help)
 }
 
-fn workers<'a>(alloc: Global) -> Arg<'a>
+/// The option of how many workers there are, with what they do.
+pub(crate) fn workers<'a>(alloc: Global, help: &'a str) -> Arg<'a>
     ensures { IsArg workers_rule result }
 {
-    number(
-        alloc,
-        "workers",
-        "1",
-        "Workers that search a bay together, 1 to 64",
-    )
+    number(alloc, "workers", "1", help)
 }
 
 fn split<'a>(alloc: Global) -> Arg<'a>
@@ -206,7 +202,7 @@ fn with_ways<'a>(alloc: Global, command: Command<'a>) -> Result<Command<'a>, All
     ensures { IfOk result (λ new. (shape : Shape) → IsCommand shape command.entry → IsCommand (with_ways shape) new) }
 {
     command
-        .arg(workers(alloc))?
+        .arg(workers(alloc, "Workers that search a bay together, 1 to 64"))?
         .arg(budget(alloc))?
         .arg(split(alloc))?
         .arg(first(alloc))?
@@ -367,6 +363,20 @@ pub(crate) fn with_partial<'a>(
         alloc,
         "partial",
         "Take a report that ends early, without its last line, as far as it goes",
+    ))
+}
+
+// A command with a table of the bays.
+pub(crate) fn with_summary<'a>(
+    alloc: Global,
+    command: Command<'a>,
+) -> Result<Command<'a>, AllocError>
+    ensures { IfOk result (λ new. (shape : Shape) → IsCommand shape command.entry → IsCommand (with_summary shape) new) }
+{
+    command.arg(flag(
+        alloc,
+        "summary",
+        "Print a table of the bays, one line for each, in place of that of the moves",
     ))
 }
 

@@ -2,7 +2,7 @@
 ghost use Rattle.std.specs.Prelude.{◌≡◌, ◌↔◌, ◌≤◌, IfOk, IfErr, IsTrue, false};
 ghost use Rattle.clap.specs.Words.{found_of, rows_of};
 ghost use Rattle.crp_solve.specs.Chosen.{IsWorkers, IsBudget, IsSplitDepth, IsBeam, IsThin, no_limits};
-ghost use Rattle.crp_words.specs.Words.{AreSecondsBeyond, HasFlags, HasNumberOrStrong, HasOwnNumberBeyond, HasTime, HasUntimed, IsGivenOrStrong, IsJust, IsLeftToStrong, IsSearchFault, IsTimeFault, Lacks, MayHaveSeconds, MayNameStop};
+ghost use Rattle.crp_words.specs.Words.{AreSecondsBeyond, AreWorkersBeyond, HasFlags, HasNumberOrStrong, HasOwnNumberBeyond, HasTime, HasUntimed, HasWorkers, IsGivenOrStrong, IsJust, IsLeftToStrong, IsSearchFault, IsTimeFault, Lacks, MayHaveSeconds, MayNameStop};
 
 use crate::given::{is_given, number_within};
 use crate::seconds::millis_in;
@@ -11,7 +11,7 @@ use clap::ArgMatches;
 use crp_solve::{MAX_BEAM, MAX_BUDGET, MAX_SPLIT, MAX_THIN, MAX_WORKERS, Settings, TimeLimits};
 use std::alloc::Global;
 
-// The most workers of a search.
+// The most workers.
 const MOST_WORKERS: u64 = MAX_WORKERS as u64;
 
 // The most rows of a path at which subtrees are given away.
@@ -94,10 +94,10 @@ fn with_flags(search: Settings, matches: &ArgMatches<'_>) -> Settings
     }
 }
 
-/// The settings of a search, but for its limits of time.
-pub(crate) fn search_of(alloc: Global, matches: &ArgMatches<'_>) -> Result<Settings, Usage>
-    ensures ok { IfOk result (HasUntimed (rows_of (found_of matches.now))) }
-    ensures err { IfErr result (Lacks (HasUntimed (rows_of (found_of matches.now))) (IsSearchFault (rows_of (found_of matches.now)))) }
+/// How many workers there are.
+pub(crate) fn workers_of(alloc: Global, matches: &ArgMatches<'_>) -> Result<u32, Usage>
+    ensures ok { IfOk result (HasWorkers (rows_of (found_of matches.now))) }
+    ensures err { IfErr result (Lacks (HasWorkers (rows_of (found_of matches.now))) (IsJust SettingFault.Workers (AreWorkersBeyond (rows_of (found_of matches.now))))) }
 {
     let workers = number_within(
         alloc,
@@ -106,6 +106,15 @@ pub(crate) fn search_of(alloc: Global, matches: &ArgMatches<'_>) -> Result<Setti
         (1, MOST_WORKERS),
         SettingFault::Workers,
     )?;
+    Ok(workers as u32)
+}
+
+/// The settings of a search, but for its limits of time.
+pub(crate) fn search_of(alloc: Global, matches: &ArgMatches<'_>) -> Result<Settings, Usage>
+    ensures ok { IfOk result (HasUntimed (rows_of (found_of matches.now))) }
+    ensures err { IfErr result (Lacks (HasUntimed (rows_of (found_of matches.now))) (IsSearchFault (rows_of (found_of matches.now)))) }
+{
+    let workers = workers_of(alloc, matches)?;
     let budget = number_within(
         alloc,
         matches,
@@ -122,13 +131,7 @@ pub(crate) fn search_of(alloc: Global, matches: &ArgMatches<'_>) -> Result<Setti
     )?;
     let beam = number_or_strong(alloc, matches, "beam", BEAMS, SettingFault::Beam)?;
     let thin = number_or_strong(alloc, matches, "thin", THIN, SettingFault::Thin)?;
-    let search = settings_with(
-        workers as u32,
-        budget,
-        split as u8,
-        beam as u32,
-        thin as u32,
-    );
+    let search = settings_with(workers, budget, split as u8, beam as u32, thin as u32);
     Ok(with_flags(search, matches))
 }
 

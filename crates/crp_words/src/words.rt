@@ -7,7 +7,7 @@ use crate::commands::command_line;
 use crate::follow_words::follow_of;
 use crate::given::{is_given, one_file, same_file, text_of, wrong};
 use crate::input_words::{input_of, is_sized_twice};
-use crate::search_words::{search_of, stop_of, time_of};
+use crate::search_words::{search_of, stop_of, time_of, workers_of};
 use crate::usage::{Mistake, Usage};
 use clap::error::ErrorKind;
 use clap::{ArgMatches, Error};
@@ -89,6 +89,23 @@ fn prove_of<'a>(alloc: Global, matches: &ArgMatches<'a>) -> Result<Job<'a>, Usag
     })
 }
 
+// What `check` and its matches ask for.
+fn check_of<'a>(alloc: Global, matches: &ArgMatches<'a>) -> Result<Job<'a>, Usage>
+    ensures ok { IfOk result (Asks (codes "check") (rows_of (found_of matches.now))) }
+    ensures err { IfErr result (Lacks (Asks (codes "check") (rows_of (found_of matches.now))) (IsFault (codes "check") (rows_of (found_of matches.now)))) }
+{
+    let workers = workers_of(alloc, matches)?;
+    let file = text_of(alloc, matches, "file")?;
+    Ok(Job::OneFile {
+        file,
+        command: FileCommand::Check {
+            any_size: is_given(matches, "any-size"),
+            workers,
+        },
+        stop: stop_of(matches),
+    })
+}
+
 // What `solve` and its matches ask for.
 fn solve_of<'a>(alloc: Global, matches: &ArgMatches<'a>) -> Result<Job<'a>, Usage>
     ensures ok { IfOk result (Asks (codes "solve") (rows_of (found_of matches.now))) }
@@ -158,7 +175,7 @@ fn audit_of<'a>(alloc: Global, matches: &ArgMatches<'a>) -> Result<Job<'a>, Usag
 
 // What a command without numbers and its matches ask for.
 fn leaf_of<'a>(alloc: Global, name: &str, matches: &ArgMatches<'a>) -> Result<Job<'a>, Usage>
-    requires { (name.now ≢ codes "prove") × (name.now ≢ codes "solve") × (name.now ≢ codes "audit") × (name.now ≢ codes "follow") × (name.now ≢ codes "absent") }
+    requires { (name.now ≢ codes "prove") × (name.now ≢ codes "solve") × (name.now ≢ codes "audit") × (name.now ≢ codes "follow") × (name.now ≢ codes "absent") × (name.now ≢ codes "check") }
     ensures ok { IfOk result (Asks name.now (rows_of (found_of matches.now))) }
     ensures err { IfErr result (Lacks (Asks name.now (rows_of (found_of matches.now))) (IsFault name.now (rows_of (found_of matches.now)))) }
 {
@@ -167,9 +184,6 @@ fn leaf_of<'a>(alloc: Global, name: &str, matches: &ArgMatches<'a>) -> Result<Jo
         "replay" => FileCommand::Replay,
         "bound" => FileCommand::Bound {
             chains: is_given(matches, "chains"),
-        },
-        "check" => FileCommand::Check {
-            any_size: is_given(matches, "any-size"),
         },
         "rewrite" => FileCommand::Rewrite,
         _ => return Err(wrong(alloc, "error: there is no such command\n")),
@@ -188,6 +202,9 @@ fn job_of<'a>(alloc: Global, name: &str, matches: &ArgMatches<'a>) -> Result<Job
 {
     if name == "prove" {
         return prove_of(alloc, matches);
+    }
+    if name == "check" {
+        return check_of(alloc, matches);
     }
     if name == "solve" {
         return solve_of(alloc, matches);

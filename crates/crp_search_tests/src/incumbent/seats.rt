@@ -61,7 +61,7 @@ fn claims(rt: &impl Abort, shared: &Shared, seat: Seat, answer: bool) -> Seat
     ensures share { result.view.share ≡ seat.view.share }
 {
     let (granted, seat) = shared.claim(seat);
-    assert_same(rt, &granted, &answer);
+    assert_same(rt, &granted, &Some(answer));
     seat
 }
 

@@ -1,5 +1,6 @@
 //! Two threads that claim.
 ghost use Rattle.std.specs.Prelude.{◌≡◌};
+ghost use Rattle.std.specs.Thread.{IsSync};
 ghost use Rattle.crp_incumbent.specs.Rule.{all_shares};
 
 use crate::bays::{SIX, problem_of};
@@ -20,8 +21,8 @@ struct Claimant {
 }
 
 impl Claimant {
-    /// Claims once more.
-    fn claim(self, shared: &Shared) -> (bool, Claimant)
+    /// Claims once more. There may be no answer yet.
+    fn claim(self, shared: &Shared) -> (Option<bool>, Claimant)
         requires { self.seat.of ≡ shared.now }
         ensures of { result.1.seat.of ≡ shared.now }
         ensures share { result.1.seat.view.share ≡ self.seat.view.share }
@@ -36,15 +37,15 @@ impl Claimant {
             answer,
             Claimant {
                 seat,
-                claims: claims.saturating_add(1),
-                granted: granted.saturating_add(u32::from(answer)),
+                claims: claims.saturating_add(u32::from(answer.is_some())),
+                granted: granted.saturating_add(u32::from(answer == Some(true))),
             },
         )
     }
 }
 
-/// Claims a thousand times, or until a claim is refused.
-fn claim_often(shared: &Shared, seat: Seat) -> Claimant
+/// Claims a thousand times, or until a claim is refused, and leaves nothing that is lent to the seat.
+fn claim_often(rt: &impl Wait, shared: &Shared, seat: Seat) -> Claimant
     requires { seat.of ≡ shared.now }
     ensures of { result.seat.of ≡ shared.now }
     ensures share { result.seat.view.share ≡ seat.view.share }
@@ -54,13 +55,17 @@ fn claim_often(shared: &Shared, seat: Seat) -> Claimant
         claims: 0,
         granted: 0,
     };
-    for _ in 0..1000 {
+    for _ in rt.forever() {
         let (answer, next) = claimant.claim(shared);
         claimant = next;
-        if !answer {
+        if answer == Some(false) || claimant.claims == 1000 {
             break;
         }
+        if answer.is_none() {
+            thread::yield_now();
+        }
     }
+    claimant.seat.settle(shared);
     claimant
 }
 
@@ -73,7 +78,21 @@ fn claims_of_two<R: Threads + Wait + Abort + Sync>(rt: &R, shared: Shared, seat:
         panic!(rt; "a share is left")
     };
     let words = &shared;
-    let (a, b) = thread::join(rt, || claim_often(words, a), || claim_often(words, b));
+    let (a, b) = thread::join(
+        rt,
+        || -> Claimant
+            requires sync { IsSync R.row }
+            requires of { a.of ≡ words.now }
+            ensures of { result.seat.of ≡ words.entry.now }
+            ensures share { result.seat.view.share ≡ a.view.share }
+        { claim_often(rt, words, a) },
+        || -> Claimant
+            requires sync { IsSync R.row }
+            requires of { b.of ≡ words.now }
+            ensures of { result.seat.of ≡ words.entry.now }
+            ensures share { result.seat.view.share ≡ b.view.share }
+        { claim_often(rt, words, b) },
+    );
     assert_same(rt, &(u64::from(a.granted) + u64::from(b.granted)), &granted);
     let seat = shared.join(a.seat, b.seat);
     let totals = shared.close(seat);

@@ -1,5 +1,6 @@
 //! One worker that shares the limit, the claims and the names with others.
-ghost use Rattle.std.specs.Prelude.{◌≡◌, ◌⊎◌, true, min, length, None, IfSome};
+ghost use Rattle.std.specs.Prelude.{◌≡◌, ◌<◌, ◌⊎◌, true, false, min, length, None, IfSome};
+ghost use Rattle.crp_incumbent.specs.Seats.{ClaimsOne};
 ghost use Rattle.crp_plan.specs.Bay.{Problem};
 ghost use Rattle.crp_solve.specs.Answers.{path_in, IsPlanOf};
 ghost use Rattle.crp_search.specs.Limits.{Advances};
@@ -51,6 +52,24 @@ fn is_stopped<G: Gate>(gate: &G, timed: bool, stopped: bool, claims: u32) -> boo
     ensures timely { result ≡ true → (stopped ≡ true) ⊎ ((timed ≡ true) × G.may_stop gate.now) }
 {
     stopped || timed && claims % CLAIMS == 0 && gate.stops()
+}
+
+/// Claims one expansion by the seat, and answers whether it was granted. Where that is not known yet, since all that is left is lent to
+/// other workers, it waits until they claimed more or their parts ended.
+fn claim<R: Wait>(rt: &R, common: &Common, seat: &mut Seat) -> bool
+    requires { seat.old.of ≡ common.now.of }
+    ensures step { seat.old.view.refused ≡ 0 → ClaimsOne seat.old result seat.new }
+    ensures refused { 0 < seat.old.view.refused → (result ≡ false) × (seat.new ≡ seat.old) }
+{
+    let mut times = 0;
+    for _ in rt.forever() {
+        if let Some(granted) = seat.claim(&common.shared) {
+            return granted;
+        }
+        common.open.pause(rt, times);
+        times = times.saturating_add(1);
+    }
+    unreachable!()
 }
 
 /// A worker with its seat, the plan that its least offer counts, its place in the pool, how many claims were granted to it, and whether
@@ -105,7 +124,7 @@ impl<'a, R: Wait, G: Gate, K: Opened> Claims for Desk<'a, R, G, K> {
         if self.stopped {
             return false;
         }
-        let granted = self.seat.claim(&common.shared);
+        let granted = claim(self.outside.rt, common, &mut self.seat);
         if granted {
             self.claims = self.claims.wrapping_add(1);
             if self.claims % CLAIMS == 0 {
@@ -198,9 +217,9 @@ impl<'a, R, G: Gate, K: Opened> Desk<'a, R, G, K> {
         }
     }
 
-    /// What it leaves: its seat, its plan, its place, and whether its claims were stopped. The gate hears of the claims that were not said
-    /// to it yet.
-    fn close(self) -> (Seat, Option<Plan>, Option<PoolSeat>, bool)
+    /// What it leaves: its seat, which is settled, its plan, its place, and whether its claims were stopped. The gate hears of the claims
+    /// that were not said to it yet.
+    fn close(mut self) -> (Seat, Option<Plan>, Option<PoolSeat>, bool)
         ensures words { result.0.of ≡ K.words }
         ensures plan { KeepsPlan K.words result.0.view result.1 }
         ensures fixed { fixed_at result.2 ≡ fixed_at K.place }
@@ -208,6 +227,8 @@ impl<'a, R, G: Gate, K: Opened> Desk<'a, R, G, K> {
         ensures timely { result.3 ≡ true → K.words.key.timed ≡ true }
         ensures stopped { result.3 ≡ true → K.may }
     {
+        let common = self.common;
+        self.seat.settle(&common.shared);
         self.outside.gate.claimed(self.claims % CLAIMS);
         (self.seat, self.best, self.place, self.stopped)
     }

@@ -4,10 +4,10 @@ use std::sync::atomic::{AtomicBool, AtomicU64, Ordering};
 use std::thread;
 use std::time::Duration;
 
-/// How often an idle worker looks again at once, before it sleeps.
+/// How often a worker that waits looks again at once, before it sleeps.
 const LOOKS: u64 = 16;
 
-/// The longest sleep of an idle worker, in microseconds.
+/// The longest sleep of a worker, in microseconds.
 const MAX_SLEEP: u64 = 1000;
 
 /// The names that were put and not searched yet, how many of them nobody took, whether a part was lost, how often an idle worker had
@@ -100,10 +100,20 @@ impl OpenWork {
         self.lost.load(Ordering::SeqCst) || self.names() == 0
     }
 
-    /// An idle worker waits, which has waited so many times before in a row, and was called so often before it found no name: at first
-    /// for its next turn, then asleep until somebody calls, and longer each time.
+    /// An idle worker waits, which has waited so many times before in a row, and was called so often before it found no name.
     pub(crate) fn wait<R: Wait>(&self, rt: &R, called: u64, times: u64) {
         self.waiting.fetch_add(1, Ordering::SeqCst);
+        self.pause_since(rt, called, times);
+        self.waiting.fetch_sub(1, Ordering::SeqCst);
+    }
+
+    /// A worker that has work pauses, which has paused so many times before in a row, until it may go on.
+    pub(crate) fn pause<R: Wait>(&self, rt: &R, times: u64) {
+        self.pause_since(rt, self.calls(), times);
+    }
+
+    /// At first for the next turn, then asleep until somebody calls, and longer each time.
+    fn pause_since<R: Wait>(&self, rt: &R, called: u64, times: u64) {
         if times < LOOKS {
             thread::yield_now();
         } else {
@@ -111,6 +121,5 @@ impl OpenWork {
             self.calls
                 .park_timeout(rt, (called & 0xffff_ffff) as u32, sleep);
         }
-        self.waiting.fetch_sub(1, Ordering::SeqCst);
     }
 }

@@ -12,7 +12,7 @@ use Rattle.crp_commands.proofs.checking.check.Goals as goal
 pub returns-in_err-check_next-clause-done : goal.returns-in_err-check_next-clause-done
 returns-in_err-check_next-clause-done g c =
     let p = err_from_is_err_and c.from_residual.result c.from_residual.ensures.1 in
-    let inv = c.loop-files.invariant in
+    let inv = c.loop-block.invariant in
     let step = c.in_err-check_next.ensures in
     let given = g.R.Source.remaining c.args.reader.now in
     let held = g.W.Sink.contents c.args.writer.now in
@@ -22,7 +22,7 @@ returns-in_err-check_next-clause-done g c =
 pub returns-in_err-write_verdict-in-Ok-Some-clause-done : goal.returns-in_err-write_verdict-in-Ok-Some-clause-done
 returns-in_err-write_verdict-in-Ok-Some-clause-done g c =
     let p = err_from_is_err_and c.from_residual-in_err-write_verdict-in-Ok-Some.result c.from_residual-in_err-write_verdict-in-Ok-Some.ensures.1 in
-    let inv = c.loop-files.invariant in
+    let inv = c.loop-block.invariant in
     let step = c.in_ok-check_next.ensures in
     let stated : YardBay × Verdict = (c.in-Ok-Some.bay, c.in-Ok-Some.verdict) in
     let line = c.in_err-write_verdict-in-Ok-Some in
@@ -42,7 +42,7 @@ returns-in_err-write_verdict-in-Ok-Some-clause-done g c =
 
 pub returns-in-Ok-None-clause-done : goal.returns-in-Ok-None-clause-done
 returns-in-Ok-None-clause-done g c =
-    let inv = c.loop-files.invariant in
+    let inv = c.loop-block.invariant in
     let step = c.in_ok-check_next.ensures in
     let given = g.R.Source.remaining c.args.reader.now in
     let held = g.W.Sink.contents c.args.writer.now in
@@ -52,7 +52,7 @@ returns-in-Ok-None-clause-done g c =
 
 pub returns-in_ok-write_verdict-in-Ok-Some-clause-done : goal.returns-in_ok-write_verdict-in-Ok-Some-clause-done
 returns-in_ok-write_verdict-in-Ok-Some-clause-done g c =
-    let inv = c.loop-files.invariant in
+    let inv = c.loop-block.invariant in
     let step = c.in_ok-check_next.ensures in
     let stated : YardBay × Verdict = (c.in-Ok-Some.bay, c.in-Ok-Some.verdict) in
     let given = g.R.Source.remaining c.args.reader.now in
@@ -65,7 +65,7 @@ returns-in_ok-write_verdict-in-Ok-Some-clause-done g c =
 
 pub returns-in-Err-clause-done : goal.returns-in-Err-clause-done
 returns-in-Err-clause-done g c =
-    let inv = c.loop-files.invariant in
+    let inv = c.loop-block.invariant in
     let step = c.in_ok-check_next.ensures in
     let given = g.R.Source.remaining c.args.reader.now in
     let held = g.W.Sink.contents c.args.writer.now in
@@ -90,7 +90,7 @@ returns-in_err-write_verdict-in-Ok-Some-clause-noted g c =
 
 pub returns-in-Ok-None-clause-noted : goal.returns-in-Ok-None-clause-noted
 returns-in-Ok-None-clause-noted g c =
-    let inv = c.loop-files.invariant in
+    let inv = c.loop-block.invariant in
     let step = c.in_ok-check_next.ensures in
     let given = g.R.Source.remaining c.args.reader.now in
     let held = g.W.Sink.contents c.args.writer.now in
@@ -99,7 +99,7 @@ returns-in-Ok-None-clause-noted g c =
 
 pub returns-in_ok-write_verdict-in-Ok-Some-clause-noted : goal.returns-in_ok-write_verdict-in-Ok-Some-clause-noted
 returns-in_ok-write_verdict-in-Ok-Some-clause-noted g c =
-    let inv = c.loop-files.invariant in
+    let inv = c.loop-block.invariant in
     let step = c.in_ok-check_next.ensures in
     let stated : YardBay × Verdict = (c.in-Ok-Some.bay, c.in-Ok-Some.verdict) in
     let given = g.R.Source.remaining c.args.reader.now in

@@ -5,8 +5,8 @@ use Rattle.crp_commands.specs.Check.{most_bytes}
 use Rattle.crp_commands.specs.Checks.{StandsAfter}
 use Rattle.crp_commands.proofs.checking.check.Given as goal
 
-abbrev pub invariant-loop-files : goal.invariant-loop-files
-invariant-loop-files g l =
+abbrev pub invariant-loop-block : goal.invariant-loop-block
+invariant-loop-block g l =
     let remaining = g.R.Source.remaining in
     let reads = g.R.Source.failures in
     let contents = g.W.Sink.contents in
@@ -20,5 +20,5 @@ invariant-loop-files g l =
       passed : l.interruptions ≤ most_interruptions;
     }
 
-abbrev pub decreases-loop-files : goal.decreases-loop-files
-decreases-loop-files g l = l.left
+abbrev pub decreases-loop-block : goal.decreases-loop-block
+decreases-loop-block g l = l.left

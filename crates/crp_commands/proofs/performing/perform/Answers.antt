@@ -8,4 +8,4 @@ returns-in-Prove-clause-done g c = rw c.in-Prove.is c.prove.ensures
 pub returns-in-Check-clause-noted : goal.returns-in-Check-clause-noted
 returns-in-Check-clause-noted g c =
     let lines : SinkSeen = sink_seen g.W.Sink.contents g.W.Sink.failures c.args.writer.now c.check.new.writer in
-    rw c.in-Check.is (noted_check c.in-Check.any_size lines _ c.check.result c.check.ensures.noted)
+    rw c.in-Check.is (noted_check c.in-Check.any_size c.in-Check.workers lines _ c.check.result c.check.ensures.noted)

@@ -17,14 +17,14 @@ returns c =
     ap (λ (l : List StatedMove). get_or l k c.index-moves-step.result) slice ∙ get_or_from_slice_get moves k m c.index-moves-step.result c.requires.1 in
     let same = c.in-Ok-from_slice.ensures.items in
     let rows = c.make_moves.new.rows.items in
-    let start = c.in-Ok.rows.items in
+    let start = c.in-Ok-rows_of.rows.items in
     let led = subst (λ (l : List StatedMove). Leads c.heights-heights.result.now start (moves_of (take k l)) rows) slice c.in-Ok-make_moves.ensures.made in
     record {
       start = start;
       made = take k moves;
       next = m;
       later = drop (suc k) moves;
-      stands = c.in_ok-bay.ensures.there.2 ∙ c.in-Ok.ensures;
+      stands = c.in_ok-bay.ensures.there.2 ∙ c.in-Ok-rows_of.ensures;
       heights_are = same ∙ some_same c.heights-heights.result.now (heights_at c.args.yard.now.sizes c.args.stated.now.bay) (sym c.heights-heights.ensures.value ∙ c.in_ok-bay.ensures.there.1);
       moves_are = cut_at moves k m c.requires.1;
       line_is = c.requires.2;

@@ -21,5 +21,5 @@ returns c =
       c.in_ok-push_decimal.ensures,
       c.in_ok-extend_from_slice.ensures.items,
     )
-    (regroup10 c.args.text.now.items (codes "<section id=\"b") (decimal c.args.number) (own_part c.args.number (option_copied c.args.own)) (codes "<h2>") (bay_title bay) (codes "</h2><p>") (verdict bay.stated.said) (codes " &#183; ") (moves_words bay)
-    (codes "<a class=\"h\" href=\"#\">all bays</a></p><div>\n"))
+    (regroup10 c.args.text.now.items (codes "<section id=\"b") (decimal c.args.number) (own_part c.args.number (option_copied c.args.own)) (codes "<header><h2>") (bay_title bay) (codes "</h2><p>") (verdict bay.stated.said) (codes " &#183; ") (moves_words bay)
+    (codes "<a class=\"h\" href=\"#\">all bays</a></p></header><div><div>\n"))

@@ -11,12 +11,14 @@ returns c =
     let takes = ap (λ s. s.takes) c.sums_of-takes.ensures.value ∙ ap (λ l. sum_by takes_in (map bay_followed l)) c.deref.ensures.value in
     let others : c.saturating_sub-others.result ≡ c.args.count - length (map bay_followed bays) = omega (arith, length-map bays bay_followed) in
     rw (
-      c.in_ok-extend_from_slice-3.ensures.items,
+      c.in_ok-extend_from_slice-4.ensures.items,
       c.in_ok-push_counted.ensures,
-      c.in_ok-extend_from_slice-2.ensures.items,
+      c.in_ok-extend_from_slice-3.ensures.items,
       c.in_ok-push_taken.ensures,
-      c.in_ok-push_ordered.ensures,
+      c.in_ok-extend_from_slice-2.ensures.items,
+      c.in_ok-push_ordered_by.ensures,
       c.in_ok-extend_from_slice.ensures.items,
+      c.numbers_in.ensures,
       takes,
       others,
     ) (simp append_assoc)

@@ -24,4 +24,4 @@ returns c =
       length-map c.args.bays.now bay_followed,
     )
     (regroup7 c.args.text.now.items (codes "</tbody><tfoot><tr><th scope=\"row\">") (counted (length c.args.bays.now) (codes "bay")) (codes "</th><td>") (decimal (decided_in bays))
-    (codes " decided</td>") (cells (sums_of bays)) (codes "</tfoot></table>\n"))
+    (codes " decided, as the report says</td>") (cells (sums_of bays)) (codes "</tfoot></table>\n"))

@@ -6,4 +6,4 @@ use Rattle.crp_picture.specs.Views.{cell_as}
 use Rattle.crp_picture.proofs.cells.cells_of.Given as goal
 
 abbrev pub invariant-loop-i : goal.invariant-loop-i
-invariant-loop-i l = map cell_as l.cells.items ≡ cells_to (moves_of l.moves) l.rows l.i
+invariant-loop-i l = map cell_as l.cells.items ≡ cells_to (moves_of l.bay.stated.moves) l.rows l.i

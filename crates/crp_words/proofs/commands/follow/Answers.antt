@@ -1,5 +1,5 @@
 use Rattle.std.proofs.lemmas.Result.{IfOk-weaker}
-use Rattle.crp_words.specs.Commands.{follow_files, with_after, with_bays, with_page, with_size}
+use Rattle.crp_words.specs.Commands.{follow_files, with_after, with_bays, with_page, with_partial, with_size}
 use Rattle.crp_words.proofs.commands.follow.Goals as goal
 
 pub returns : goal.returns
@@ -7,4 +7,5 @@ returns c =
     let ordered = c.in_ok-ordered.ensures (with_size follow_files) (c.in_ok-sized.ensures follow_files c.in_ok-follow_files.ensures) in
     let paged = c.in_ok-paged.ensures (with_bays (with_size follow_files)) ordered in
     let left = c.in_ok-left.ensures (with_page (with_bays (with_size follow_files))) paged in
-    IfOk-weaker c.with_partial.result _ _ (λ new more. more (with_after (with_page (with_bays (with_size follow_files)))) left) c.with_partial.ensures
+    let early = c.in_ok-early.ensures (with_after (with_page (with_bays (with_size follow_files)))) left in
+    IfOk-weaker c.with_summary.result _ _ (λ new more. more (with_partial (with_after (with_page (with_bays (with_size follow_files))))) early) c.with_summary.ensures

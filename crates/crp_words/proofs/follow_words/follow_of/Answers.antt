@@ -65,6 +65,7 @@ returns-clause-ok c = (
     sym (first_value-rows (found_of c.args.matches.now) (codes "sizes")) ∙ sym c.get_str.ensures,
     c.in_ok-after.ensures.ok,
     c.is_given.ensures,
+    c.is_given-2.ensures,
   ),
   c.in_ok-settings.ensures.ok,
 )

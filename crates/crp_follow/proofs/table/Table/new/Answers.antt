@@ -1,13 +1,11 @@
-use Rattle.std.proofs.Common.{◌≡◌, ◌++◌, [], List, ℕ, map, refl, subst}
+use Rattle.std.proofs.Common.{◌≡◌, ◌++◌, List, ℕ, map, subst}
 use Rattle.std.specs.Prelude.{IfOk}
 use denote.Ref.{Bor}
-use Rattle.crp_yard.specs.Written.{text_written_by}
 use Rattle.crp_follow.specs.Table.{header, record_text}
 use Rattle.crp_follow.proofs.table.Table.new.Goals as goal
 
 pub returns : goal.returns
 returns c =
     let now = λ (field : Bor (List ℕ)). field.now in
-    let none : text_written_by c.from_writer.result ≡ [] = rw (c.from_writer.ensures.wtr, c.new-2.ensures.items, c.from_writer.ensures.empty) refl in
-    subst (λ text. IfOk c.push_record.result (λ table. table ≡ text ++ record_text (header ++ map now c.args.more.now))) none
-    (subst (λ fields. IfOk c.push_record.result (λ table. table ≡ text_written_by c.from_writer.result ++ record_text (map now fields ++ map now c.args.more.now))) c.as_slice.ensures c.push_record.ensures)
+    subst (λ text. IfOk c.push_record.result (λ table. table ≡ text ++ record_text (header ++ map now c.args.more.now))) c.empty.ensures
+    (subst (λ fields. IfOk c.push_record.result (λ table. table ≡ c.empty.result ++ record_text (map now fields ++ map now c.args.more.now))) c.as_slice.ensures c.push_record.ensures)

@@ -1,0 +1,16 @@
+use Rattle.crp_picture.specs.Names.{escaped}
+use Rattle.crp_picture.proofs.Cutting.{some_left, none_left, escaped_none, escaped_more, all_added}
+use Rattle.crp_picture.proofs.escaping.push_escaped.Goals as goal
+
+pub loop-rest-preserved : goal.loop-rest-preserved
+loop-rest-preserved c =
+    let rest = c.loop-rest.rest.now in
+    let first = c.first_piece-c in
+    escaped_more c.args.text.now.items c.loop-rest.text.items c.push_escaped_piece.new.text.items c.args.name.now rest first.result.1.now first.result.2.now first.result.0
+    (some_left rest c.is_empty.result c.is_empty.ensures c.loop-rest-test.true) first.ensures.character first.ensures.piece first.ensures.behind c.loop-rest.invariant c.in_ok-push_escaped_piece.ensures
+
+pub returns : goal.returns
+returns c =
+    let rest = c.loop-rest.rest.now in
+    all_added c.args.text.now.items c.loop-rest.text.items (escaped c.args.name.now) (escaped rest) c.loop-rest.invariant
+    (escaped_none rest (none_left rest c.is_empty.result c.is_empty.ensures c.loop-rest-test.false))

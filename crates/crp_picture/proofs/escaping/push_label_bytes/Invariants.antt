@@ -1,8 +1,0 @@
--- The bytes so far are added.
-use Rattle.std.proofs.Common.{◌≡◌, ◌++◌, take}
-use Rattle.std.specs.Prelude.{flat_map}
-use Rattle.crp_picture.specs.Names.{label_byte}
-use Rattle.crp_picture.proofs.escaping.push_label_bytes.Given as goal
-
-abbrev pub invariant-loop-byte : goal.invariant-loop-byte
-invariant-loop-byte l = l.text.items ≡ l.initial.text.items ++ flat_map label_byte (take l.byte-index l.bytes)
