@@ -1,5 +1,5 @@
 -- A push, as code makes it.
-use Rattle.std.proofs.Common.{◌≡◌, ◌≢◌, ℕ, ◌-◌, ◌<◌, ◌≤◌, Bool, true, List, [], ◌∷◌, ◌++◌, length, reverse, take, drop, get_or, set, Contains, IsTrue, sym, ap, ◌∙◌, subst, arith, length-set, length-append}
+use Rattle.std.proofs.Common.{◌≡◌, ◌≢◌, ℕ, ◌+◌, ◌-◌, ◌<◌, ◌≤◌, Bool, true, List, [], ◌∷◌, ◌++◌, length, reverse, take, drop, get_or, set, Contains, IsTrue, sym, ap, ◌∙◌, subst, arith, length-set, length-append}
 use Rattle.std.proofs.lemmas.List.{reverse-append}
 use Rattle.std.proofs.Math.Seq.{take-append_seam}
 use Rattle.std.specs.List.{refill}
@@ -142,13 +142,24 @@ pub record Started (pushes : List Push) (rows : List ℕ) (s : Position) (row : 
   pub kept : IsKeptPosition pushes rows s
   pub steps : PushSteps rows s row
 
-pub started : (pushes : List Push) (rows h : List ℕ) (o n row : ℕ) (items v : List (List ℕ)) (now : PlaceAndTrail) (b : Bool) → v ≡ items → IsKeptPosition pushes rows (place_of h o n items) →
-    seen pushes rows (place_of h o n items) ≡ now → b ≡ can_shift now.place row → b ≡ true → Started pushes rows (place_of h o n v) row
-started pushes rows h o n row items v now b e kept is eb yes_b =
+pub started : (pushes : List Push) (rows h : List ℕ) (o n row : ℕ) (items v : List (List ℕ)) (now : PlaceAndTrail) → v ≡ items → IsKeptPosition pushes rows (place_of h o n items) →
+    seen pushes rows (place_of h o n items) ≡ now → can_shift now.place row ≡ true → Started pushes rows (place_of h o n v) row
+started pushes rows h o n row items v now e kept is can =
     let kept_v : IsKeptPosition pushes rows (place_of h o n v) = subst (λ w. IsKeptPosition pushes rows (place_of h o n w)) (sym e) kept in
-    let can : can_shift (place_of h o n items) row ≡ true = subst (λ (w : PlaceAndTrail). can_shift w.place row ≡ true) (sym is) (sym eb ∙ yes_b) in
-    let can_v : can_shift (place_of h o n v) row ≡ true = subst (λ w. can_shift (place_of h o n w) row ≡ true) (sym e) can in
+    let can_v : can_shift (place_of h o n v) row ≡ true = subst (λ w. can_shift (place_of h o n w) row ≡ true) (sym e) (subst (λ (w : PlaceAndTrail). can_shift w.place row ≡ true) (sym is) can) in
     record { kept = kept_v; steps = push_steps pushes rows (place_of h o n v) row kept_v can_v }
+
+-- the row that code is told is where the next container stands
+pub told : (pushes : List Push) (rows h : List ℕ) (o n row from : ℕ) (items v : List (List ℕ)) (now : PlaceAndTrail) → Started pushes rows (place_of h o n v) row → v ≡ items →
+    seen pushes rows (place_of h o n items) ≡ now → from ≡ source now.place + 1 → from - 1 ≡ get_or rows n 0
+told pushes rows h o n row from items v now st e is told_from =
+    let less : from - 1 ≡ source now.place = omega (arith, told_from) in
+    let same : source now.place ≡ source (place_of h o n v) = ap (λ (w : PlaceAndTrail). source w.place) (sym is) ∙ ap (λ x. source (place_of h o n x)) (sym e) in
+    less ∙ same ∙ sym st.steps.turn_at.row
+
+-- what is noted of a push
+abbrev pub push_of : ℕ → ℕ → ℕ → Push
+push_of from to next = record { from = from; to = to; next = next }
 
 -- where the takes begin
 pub located_landed : (pushes : List Push) (rows h hs : List ℕ) (o n row rank : ℕ) (v new1 new2 : List (List ℕ)) → Started pushes rows (place_of h o n v) row → hs ≡ h →

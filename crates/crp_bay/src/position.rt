@@ -2,7 +2,7 @@ ghost use Rattle.std.specs.Prelude.{◌≡◌, ℕ, ◌-◌, ◌+◌, ◌≤◌,
 ghost use Rattle.std.specs.Bool.{OnTrue, OnFalse};
 ghost use Rattle.std.specs.List.Sorted.{IsStrictlyIncreasing};
 ghost use Rattle.crp_plan.specs.Bay.{Problem as Statement, IsProblem, IsAt, IsFinished, start, IsLegalRow};
-ghost use Rattle.crp_bay.specs.Positions.{place, settled, child, targets, can_shift};
+ghost use Rattle.crp_bay.specs.Positions.{place, source, settled, child, targets, can_shift};
 ghost use Rattle.crp_bay.specs.Reached.{IsReached, HasRoom};
 
 use crate::moving::{go_back, land, lift, settle};
@@ -123,16 +123,29 @@ impl Position {
         ensures target { IsTrue result ↔ Contains (targets self.old.place) row }
         ensures pushed { OnTrue result (self.new ≡ record { place = child self.old.place row; trail = self.old.place ∷ self.old.trail }) }
         ensures refused { OnFalse result (self.new ≡ self.old) }
-        ensures few { length self.new.trail ≤ 672 }
     {
         if !self.is_target(row) {
             return false;
         }
+        let from = self.row_of(self.next());
+        self.push_legal(from, row);
+        true
+    }
+
+    /// Relocates from the row in which the next container stands to the other, where that is legal, and makes every retrieval that is
+    /// legal then.
+    #[inline]
+    pub fn push_legal(&mut self, from: u8, row: u8)
+        requires legal { IsTrue (can_shift self.old.place row) }
+        requires from { from ≡ source self.old.place + 1 }
+        ensures pushed { self.new ≡ record { place = child self.old.place row; trail = self.old.place ∷ self.old.trail } }
+        ensures few { length self.new.trail ≤ 672 }
+    {
         let next = self.next;
-        let from = self.row_of[next as usize];
+        let left = from - 1;
         let to = row - 1;
         let stacks = self.stacks.as_mut_slice();
-        let rank = lift(from as usize, stacks);
+        let rank = lift(left as usize, stacks);
         land(to as usize, rank, stacks);
         self.row_of[rank as usize] = to;
         self.next = settle(
@@ -142,8 +155,11 @@ impl Position {
             &self.row_of,
             stacks,
         );
-        self.pushes.push(Push { from, to, next });
-        true
+        self.pushes.push(Push {
+            from: left,
+            to,
+            next,
+        });
     }
 
     /// Undoes the last push that is not undone. Where there is none it changes nothing.

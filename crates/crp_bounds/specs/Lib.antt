@@ -7,3 +7,4 @@ pub mod Leasts
 pub mod Undoing
 pub mod Offers
 pub mod Turns
+pub mod Moving

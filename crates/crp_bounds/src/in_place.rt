@@ -4,12 +4,13 @@ ghost use Rattle.std.specs.Bool.{OnTrue, OnFalse};
 ghost use Rattle.crp_plan.specs.declared.moves.Move.{Move};
 ghost use Rattle.crp_plan.specs.Bay.{Problem as Statement, start, IsProblem, IsAt, IsLegalRow, Completes, relocations};
 ghost use Rattle.crp_bay.specs.Positions.{settled, child, targets, can_shift, stack_at};
-ghost use Rattle.crp_bay.specs.Located.{moved};
 ghost use Rattle.crp_bounds.specs.Bounds.{blocking as blocking_bound, look_ahead as look_ahead_bound};
 ghost use Rattle.crp_bounds.specs.Leasts.{least_ordered};
+ghost use Rattle.crp_bounds.specs.Moving.{IsMover};
 
 use crate::blockers::blocking;
-use crate::known::{least_of, leasts_of, moved_rank, with_top};
+use crate::known::{least_of, leasts_of, mover_of, with_top};
+use crate::mover::Mover;
 use crate::scanning::{again_from, again_reaching};
 use crate::undo::Undo;
 use arrayvec::ArrayVec;
@@ -41,12 +42,6 @@ impl Model for Bounded {
     ghost view = { λ b. b.position };
 
     ghost invariant = { λ b. KnowsAll (reverse b.undos.items) b.position.trail b.leasts b.blocking b.position.place };
-}
-
-/// What a relocation moves, and the least ordered rank of the stack that it goes to.
-struct Relocation {
-    rank: u8,
-    onto: u8,
 }
 
 /// The blocking bound after a container that blocks went onto a stack with this least ordered rank.
@@ -85,19 +80,22 @@ impl Bounded {
         &self.position
     }
 
-    /// What a legal relocation to the row would change.
+    /// The container that every legal relocation moves, where one is left to leave.
     #[inline]
-    fn relocation(&self, row: u8) -> Relocation
+    pub fn mover(&self) -> Mover
+        ensures { self.now.place.next ≤ self.now.place.ordered → IsMover result self.now.place }
+    {
+        mover_of(&self.position)
+    }
+
+    /// The least ordered rank of the stack that a legal relocation to the row goes to.
+    #[inline]
+    fn onto(&self, row: u8) -> u8
         requires { IsTrue (can_shift self.now.place row) }
-        ensures rank { result.rank ≡ moved self.now.place }
-        ensures few { result.rank ≤ 96 }
-        ensures onto { result.onto ≡ least_ordered self.now.place.ordered (stack_at self.now.place (row - 1)) }
+        ensures { result ≡ least_ordered self.now.place.ordered (stack_at self.now.place (row - 1)) }
     {
         let position = &self.position;
-        Relocation {
-            rank: moved_rank(position),
-            onto: least_of(position.ordered(), &self.leasts, position.stack(row)),
-        }
+        least_of(position.ordered(), &self.leasts, position.stack(row))
     }
 
     /// Relocates to the row and makes every retrieval that is legal then, where the relocation is legal; else it changes nothing.
@@ -116,7 +114,21 @@ impl Bounded {
         if !self.position.is_target(row) {
             return false;
         }
-        let Relocation { rank, onto } = self.relocation(row);
+        let mover = self.mover();
+        self.push_legal(mover, row);
+        true
+    }
+
+    /// Relocates the container that every legal relocation moves to the row, where that is legal, and makes every retrieval that is
+    /// legal then.
+    #[inline]
+    pub fn push_legal(&mut self, mover: Mover, row: u8)
+        requires legal { IsTrue (can_shift self.old.place row) }
+        requires mover { IsMover mover self.old.place }
+        ensures { self.new ≡ record { place = child self.old.place row; trail = self.old.place ∷ self.old.trail } }
+    {
+        let rank = mover.rank;
+        let onto = self.onto(row);
         let undo = Undo {
             rank,
             least: self.leasts[rank as usize],
@@ -124,11 +136,10 @@ impl Bounded {
         };
         let least = with_top(self.position.ordered(), rank, onto);
         let blocking = blocking_with(self.blocking, rank, onto);
-        let _pushed = self.position.push(row);
+        self.position.push_legal(mover.row, row);
         self.leasts[rank as usize] = least;
         self.blocking = blocking;
         self.undos.push(undo);
-        true
     }
 
     /// Undoes the last push that is not undone. Where there is none it changes nothing.
@@ -157,14 +168,14 @@ impl Bounded {
         u32::from(self.blocking)
     }
 
-    /// The blocking bound after a push to the row, which must be legal and is not made.
+    /// The blocking bound after a push of the container that moves to the row, which must be legal and is not made.
     #[inline]
-    pub fn blocking_after(&self, row: u8) -> u32
-        requires { IsTrue (can_shift self.now.place row) }
+    pub fn blocking_after(&self, mover: Mover, row: u8) -> u32
+        requires legal { IsTrue (can_shift self.now.place row) }
+        requires mover { IsMover mover self.now.place }
         ensures { result ≡ blocking_bound (child self.now.place row) }
     {
-        let Relocation { rank, onto } = self.relocation(row);
-        u32::from(blocking_with(self.blocking, rank, onto))
+        u32::from(blocking_with(self.blocking, mover.rank, self.onto(row)))
     }
 
     /// The look-ahead bound of the position.

@@ -2,20 +2,27 @@
 ghost use Rattle.std.specs.Prelude.{◌≡◌, ◌<◌, ◌≤◌, ℕ, suc, min, nat_le, if◌then◌else◌, false, All, length, take, slice_index, count_by, ◌==◌};
 ghost use Rattle.crp_plan.specs.Rows.{holds};
 ghost use Rattle.crp_bay.specs.Reached.{IsReached};
-ghost use Rattle.crp_bay.specs.Located.{moved};
 ghost use Rattle.crp_bounds.specs.Leasts.{least_ordered, KnowsLeasts};
+ghost use Rattle.crp_bounds.specs.Moving.{IsMover};
 
+use crate::mover::Mover;
 use crp_bay::Position;
 
-/// The rank of the container that every legal relocation moves.
+/// The container that every legal relocation moves, where one is left to leave.
 #[inline]
-pub fn moved_rank(position: &Position) -> u8
-    requires { position.now.place.next ≤ position.now.place.ordered }
-    ensures value { result ≡ moved position.now.place }
-    ensures few { result ≤ 96 }
+pub fn mover_of(position: &Position) -> Mover
+    ensures { position.now.place.next ≤ position.now.place.ordered → IsMover result position.now.place }
 {
-    let stack = position.stack(position.row_of(position.next()));
-    stack[stack.len() - 1]
+    let next = position.next();
+    if next > position.ordered() {
+        return Mover { rank: 0, row: 0 };
+    }
+    let row = position.row_of(next);
+    let stack = position.stack(row);
+    Mover {
+        rank: stack[stack.len() - 1],
+        row,
+    }
 }
 
 /// The least ordered rank of a stack with this container on top of what has this least one.

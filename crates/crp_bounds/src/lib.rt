@@ -6,6 +6,7 @@ mod blockers;
 mod in_place;
 mod known;
 mod laws;
+mod mover;
 mod scanning;
 mod undo;
 
@@ -16,3 +17,4 @@ pub use laws::{
     blocking_bounds, bounds_fall_slowly, look_ahead_bounds, look_ahead_is_higher, paths_grow,
     plans_pass, words_mean,
 };
+pub use mover::Mover;

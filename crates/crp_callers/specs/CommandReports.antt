@@ -24,7 +24,7 @@ use Rattle.crp_follow.specs.Rewritten.{IsRewritten}
 use Rattle.crp_commands.specs.Replay.{IsReplay}
 use Rattle.crp_commands.specs.Bound.{IsBound, chains_text}
 use Rattle.crp_commands.specs.Check.{IsCheck}
-use Rattle.crp_commands.specs.Follow.{made_for}
+use Rattle.crp_commands.specs.Follow.{made_for, order_for}
 use Rattle.crp_commands.specs.Prove.{IsSomeProof}
 
 -- the text is the command's report of the bytes: the moves of their plan, the bounds of their problem, what they show, a certificate of their problem, or
@@ -67,7 +67,7 @@ pub record IsWhole (yard : Inventory) (orders : LoadOrders) (sequence : List (Li
   pub numbers : Numbers
   pub bays : List BayFollowed
   pub follows : IsFollowed yard report numbers bays
-  pub page_is : page ≡ page_text yard (Counted (numbers_of yard orders sequence)) bays
+  pub page_is : page ≡ page_text yard (Counted (numbers_of yard orders sequence)) (order_for (Some (orders, sequence))) bays
   pub left_is : IsListBehind yard (made_for (Some (orders, sequence)) loaded bays) left
   pub table_is : table ≡ load_text sequence orders.list bays
 

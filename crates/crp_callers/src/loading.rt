@@ -4,15 +4,15 @@ ghost use Rattle.crp_movins.specs.declared.order.Order.{Order};
 ghost use Rattle.crp_movins.specs.Digits.{is_slot, slot_of};
 ghost use Rattle.crp_follow.specs.Followed.{BayFollowed};
 ghost use Rattle.crp_follow.specs.Table as table;
-ghost use Rattle.crp_loading.specs.Turns.{slot_text};
-ghost use Rattle.crp_loading.specs.Loading.{records_of, by_turns};
+ghost use Rattle.crp_order.specs.SlotDigits.{slot_text};
+ghost use Rattle.crp_loading.specs.Loading.{turn_fields, records_of, by_turns};
 
 use crp_loading::{same_records, slots_are_as_ordered};
 
 /// Whatever is counted of the records of the table of moves is counted of the records of this table, less their last two columns.
 pub fn records_are_counted_again()
     ensures { (count : List (List ℕ) → ℕ) (sequence : List (List ℕ)) (orders : List Order) (bays : List BayFollowed)
-        → sum_by (λ r. count (take 12 r.fields)) (by_turns (length sequence) (records_of sequence orders bays)) ≡ sum_by count (table.records_of bays) }
+        → sum_by (λ r. count (take 12 (turn_fields r))) (by_turns (length sequence) (records_of sequence orders bays)) ≡ sum_by count (table.records_of bays) }
 {
     same_records();
 }

@@ -7,7 +7,7 @@ use Rattle.std.proofs.lemmas.Grind.{flat_map-append}
 use Rattle.std.proofs.lemmas.List.Folds.{list_any-append}
 use Rattle.crp_row.specs.Symbol.{Symbol}
 use Rattle.crp_row.specs.Symbol as symbol
-use Rattle.crp_row.specs.Rows.{kind_of, symbol_of}
+use Rattle.crp_row.specs.Rows.{kind_of, symbol_of, has_text}
 use Rattle.crp_row.specs.Reasons.{reasons_text}
 use Rattle.crp_tree.specs.Mark.{R}
 use Rattle.std.proofs.lemmas.Option.{none-some}
@@ -20,7 +20,7 @@ use Rattle.crp_tree.specs.Symbols.{symbols, symbols_of_each as symbols_of_each',
 use Rattle.crp_tree.specs.Trees.{Node, nodes, nodes_of_each, spelled, Fits, FitsEach}
 use Rattle.crp_tree.specs.Listed.{AreFit}
 use Rattle.crp_tree.proofs.Listed.{IsBranch, trees_of, branch_node, branch_of, list_fits}
-use Rattle.crp_cert.specs.Script.{symbols_of, symbols_of_each, is_reasons, has_reasons, some_has_reasons}
+use Rattle.crp_cert.specs.Script.{symbols_of, symbols_of_each, has_reasons, some_has_reasons}
 use Rattle.crp_cert.specs.ScriptFaults.{BeginsWithTree}
 use Rattle.crp_cert.specs.Reading.{tag_at, reasons_at}
 use Rattle.crp_cert.proofs.Numbers.{tag_again}
@@ -207,24 +207,24 @@ mutual
 -- ---- which of them have reasons
 
 -- two lists have one where one of them has
-any_joined : (xs ys : List Symbol) → list_any is_reasons (map kind_of (xs ++ ys)) ≡ (list_any is_reasons (map kind_of xs) || list_any is_reasons (map kind_of ys))
-any_joined xs ys = ap (list_any is_reasons) (map-append kind_of xs ys) ∙ list_any-append is_reasons (map kind_of xs) (map kind_of ys)
+any_joined : (xs ys : List Symbol) → list_any has_text (map kind_of (xs ++ ys)) ≡ (list_any has_text (map kind_of xs) || list_any has_text (map kind_of ys))
+any_joined xs ys = ap (list_any has_text) (map-append kind_of xs ys) ∙ list_any-append has_text (map kind_of xs) (map kind_of ys)
 
 mutual
-  pub reasons_by_kinds : (tree : Tree) → list_any is_reasons (map kind_of (symbols tree)) ≡ has_reasons tree
+  pub reasons_by_kinds : (tree : Tree) → list_any has_text (map kind_of (symbols tree)) ≡ has_reasons tree
   reasons_by_kinds CutB = refl
   reasons_by_kinds CutL = refl
   reasons_by_kinds (CutR bound text) = refl
   reasons_by_kinds Given = refl
   reasons_by_kinds (Branch trees) = some_by_kinds trees
 
-  some_by_kinds : (trees : Trees) → list_any is_reasons (map kind_of (symbols_of_each' trees)) ≡ some_has_reasons trees
+  some_by_kinds : (trees : Trees) → list_any has_text (map kind_of (symbols_of_each' trees)) ≡ some_has_reasons trees
   some_by_kinds no_trees = refl
   some_by_kinds (one_and tree trees) =
-      any_joined (symbols tree) (symbols_of_each' trees) ∙ ap (λ x. x || list_any is_reasons (map kind_of (symbols_of_each' trees))) (reasons_by_kinds tree) ∙ ap (λ x. has_reasons tree || x) (some_by_kinds trees)
+      any_joined (symbols tree) (symbols_of_each' trees) ∙ ap (λ x. x || list_any has_text (map kind_of (symbols_of_each' trees))) (reasons_by_kinds tree) ∙ ap (λ x. has_reasons tree || x) (some_by_kinds trees)
 
 -- symbols without reasons are spelled by what they are
-pub letters_spelled : (ss : List Symbol) → list_any is_reasons (map kind_of ss) ≡ false → flat_map (λ kind. symbol_text (symbol_of kind [])) (map kind_of ss) ≡ flat_map symbol_text ss
+pub letters_spelled : (ss : List Symbol) → list_any has_text (map kind_of ss) ≡ false → flat_map (λ kind. symbol_text (symbol_of kind [])) (map kind_of ss) ≡ flat_map symbol_text ss
 letters_spelled [] e = refl
 letters_spelled (symbol.CutB ∷ ss) e = ap (λ l. 66 ∷ l) (letters_spelled ss e)
 letters_spelled (symbol.CutL ∷ ss) e = ap (λ l. 76 ∷ l) (letters_spelled ss e)

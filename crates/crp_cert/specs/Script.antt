@@ -7,8 +7,6 @@ use Rattle.crp_tree.specs.Names.{Precedes, name_text}
 use Rattle.crp_tree.specs.Trees.{Fits, IsGivenAway}
 use Rattle.crp_tree.specs.Claims.{Part, Claimed, names}
 use Rattle.crp_row.specs.Reasons.{reasons_text}
-use Rattle.crp_row.specs.declared.kind.Kind.{Kind}
-use Rattle.crp_row.specs.declared.kind.Kind.TheVariants as kind
 use Rattle.crp_cert.specs.declared.script.Script.{Script}
 use Rattle.crp_cert.specs.declared.version.Version.{Version}
 use Rattle.crp_cert.specs.declared.version.Version.TheVariants.{One, Two, Three}
@@ -44,14 +42,6 @@ end_line count = numbers_line (codes "end") (count ∷ [])
 -- the lines of a certificate, in order
 abbrev pub script_text : Script → List ℕ
 script_text script = head_text script.head ++ (flat_map part_line script.parts ++ end_line (length script.parts))
-
--- what the symbol of a cut by reasons is
-abbrev pub is_reasons : Kind → Bool
-is_reasons kind.CutB = false
-is_reasons kind.CutL = false
-is_reasons (kind.CutR bound) = true
-is_reasons (kind.Branch n) = false
-is_reasons kind.Given = false
 
 -- some cut of the tree has its reasons
 abbrev mutual

@@ -8,10 +8,10 @@ ghost use Rattle.crp_tree.specs.Claims.{path_in};
 ghost use Rattle.crp_tree.specs.Parts.{part_of};
 ghost use Rattle.crp_cert.specs.Text.{numbers_line, title_line, bay_line, size_line, stated_heights, size_of, row_line, claim_line, plan_line, head_text};
 ghost use Rattle.crp_tree.specs.Names.{name_text};
-ghost use Rattle.crp_cert.specs.Script.{symbols_of, is_reasons, has_reasons, part_line};
+ghost use Rattle.crp_cert.specs.Script.{symbols_of, has_reasons, part_line};
 ghost use Rattle.crp_tree.specs.Spots.{symbol_text};
 ghost use Rattle.crp_row.specs.Reasons.{reasons_text};
-ghost use Rattle.crp_row.specs.Rows.{symbol_of};
+ghost use Rattle.crp_row.specs.Rows.{symbol_of, has_text};
 ghost use Rattle.crp_cert.specs.Writing.{are_equal, version_for, version_under, head_for, text_under, certificate_text, first_certificate_text};
 
 use crate::claim::Claim;
@@ -121,21 +121,11 @@ fn version_of(problem: &Problem) -> Version
     Version::Two
 }
 
-/// Whether one of the symbols is a cut by reasons.
-fn has_one(kinds: &[Kind]) -> bool
-    ensures { result ≡ list_any is_reasons kinds.now }
-{
-    kinds.iter().any(|kind| match kind {
-        Kind::CutB | Kind::CutL | Kind::Branch(_) | Kind::Given => false,
-        Kind::CutR(_) => true,
-    })
-}
-
 /// Whether a cut of the tree has its reasons.
 fn has_reasons(tree: &Tree) -> bool
     ensures { result ≡ has_reasons tree.now }
 {
-    has_one(tree.symbols().kinds())
+    tree.symbols().has_reasons()
 }
 
 /// Whether a cut of these parts has its reasons.
@@ -277,7 +267,7 @@ fn push_symbol(text: &mut Vec<u8>, kind: Kind, reasons: &[u8]) -> Result<(), All
 
 /// The letter of a symbol that has no reasons.
 fn letter_of(kind: Kind) -> u8
-    ensures { is_reasons kind ≡ false → symbol_text (symbol_of kind []) ≡ result ∷ [] }
+    ensures { has_text kind ≡ false → symbol_text (symbol_of kind []) ≡ result ∷ [] }
 {
     match kind {
         Kind::CutB => b'B',
@@ -290,7 +280,7 @@ fn letter_of(kind: Kind) -> u8
 
 /// Adds symbols none of which has reasons.
 fn push_letters(text: &mut Vec<u8>, kinds: &[Kind]) -> Result<(), AllocError>
-    requires { list_any is_reasons kinds.now ≡ false }
+    requires { list_any has_text kinds.now ≡ false }
     ensures { OnOk result (text.new.items ≡ text.old.items ++ flat_map (λ kind. symbol_text (symbol_of kind [])) kinds.now) }
 {
     text.reserve(kinds.len())?;
@@ -305,9 +295,8 @@ fn push_tree(text: &mut Vec<u8>, tree: &Tree) -> Result<(), AllocError>
     ensures { OnOk result (text.new.items ≡ text.old.items ++ symbols_of tree.now) }
 {
     let mut rest = tree.symbols();
-    let kinds = rest.kinds();
-    if !has_one(kinds) {
-        return push_letters(text, kinds);
+    if !rest.has_reasons() {
+        return push_letters(text, rest.kinds());
     }
     while let Some((kind, reasons)) = rest.next() {
         push_symbol(text, kind, reasons)?;

@@ -2,11 +2,12 @@
 ghost use Rattle.std.specs.Prelude.{◌≡◌, ◌+◌, ◌<◌, ◌≤◌, true, length, take, slice_index, IfSome};
 ghost use Rattle.crp_bay.specs.Positions.{source, child, can_shift};
 ghost use Rattle.crp_bounds.specs.Bounds.{blocking as blocking_bound};
+ghost use Rattle.crp_bounds.specs.Moving.{IsMover};
 ghost use Rattle.crp_checker.specs.Pending.{rows_behind};
 ghost use Rattle.crp_checker.specs.Passed.{is_cut_letter, ArePassed, rows_from};
 
 use crp_bay::Position;
-use crp_bounds::Bounded;
+use crp_bounds::{Bounded, Mover};
 
 /// Where symbols were passed over.
 pub struct Passed {
@@ -39,13 +40,14 @@ fn is_cut(byte: u8) -> bool
 /// Whether the next byte of a piece is a cut at a legal row, and the blocking bound there is at least this: the look-ahead bound is
 /// no lower.
 #[inline]
-fn is_right(place: &Bounded, least: usize, row: u8, piece: &[u8], at: usize) -> bool
-    requires { can_shift place.now.place row ≡ true }
+fn is_right(place: &Bounded, least: usize, mover: Mover, row: u8, piece: &[u8], at: usize) -> bool
+    requires legal { can_shift place.now.place row ≡ true }
+    requires mover { IsMover mover place.now.place }
     ensures there { result ≡ true → at < length piece.now }
     ensures cut { result ≡ true → is_cut_letter (slice_index piece.now at) ≡ true }
     ensures right { result ≡ true → least ≤ blocking_bound (child place.now.place row) }
 {
-    at < piece.len() && is_cut(piece[at]) && least <= place.blocking_after(row) as usize
+    at < piece.len() && is_cut(piece[at]) && least <= place.blocking_after(mover, row) as usize
 }
 
 /// Goes on behind a row of the branch at the position, over cuts as long as the blocking bound is at least this, to the next legal row.
@@ -65,13 +67,14 @@ pub fn pass(place: &Bounded, least: usize, row: u8, piece: &[u8], taken: usize) 
         return Passed { taken, next: None };
     }
     let from = position.row_of(turn);
+    let mover = place.mover();
     let rows = position.rows();
     let mut taken = taken;
     let mut next = row;
     while next < rows {
         next += 1;
         if is_legal(position, from, next) {
-            if !is_right(place, least, next, piece, taken) {
+            if !is_right(place, least, mover, next, piece, taken) {
                 return Passed {
                     taken,
                     next: Some(next),

@@ -56,7 +56,7 @@ fn blocking_at(place: &Bounded, row: Option<u8>) -> u32
     ensures { result ≡ blocking_bound (below row place.now.place) }
 {
     match row {
-        Some(row) => place.blocking_after(row),
+        Some(row) => place.blocking_after(place.mover(), row),
         None => place.blocking(),
     }
 }

@@ -16,11 +16,11 @@ use Rattle.crp_page.specs.Page.{page_text}
 use Rattle.crp_report.specs.declared.fault.Fault.TheVariants as run
 use Rattle.crp_report.specs.declared.fault.Output.TheVariants as output
 use Rattle.crp_report.specs.Chosen.{InputChosen}
-use Rattle.crp_report.specs.Runs.{SourceSeen, SinkSeen, GetsNothing}
+use Rattle.crp_report.specs.Runs.{SourceSeen, SinkSeen, GetsFront, GetsNothing}
 use Rattle.crp_jobs.specs.declared.outcome.ToolFault.{ToolFault}
 use Rattle.crp_jobs.specs.declared.outcome.ToolFault.TheVariants as fault
 use Rattle.crp_jobs.specs.Outcomes.{fault_of_follow, fault_of_loading}
-use Rattle.crp_commands.specs.Follow.{AreTextsOf, HasNoTexts, IsFollowInput, Ship, StopsPage, StopsWriting, Texts, WritesPart, WritesWhole, if_asked, loading_faults, made_for, numbers_for, sink_failures, table_for}
+use Rattle.crp_commands.specs.Follow.{AreTextsOf, HasNoTexts, IsFollowInput, Ship, StopsPage, StopsWriting, Texts, WritesPart, WritesWhole, if_asked, loading_faults, made_for, numbers_for, order_for, sink_failures, table_for}
 use Rattle.crp_commands.specs.Noted.{IsNotedBy}
 use Rattle.crp_commands.specs.Partial.{IsReportIn}
 use Rattle.crp_jobs.specs.Opened.{IsSourceLeftAlone}
@@ -31,6 +31,11 @@ use Rattle.crp_jobs.specs.Opened.{IsSourceLeftAlone}
 pub asked_nothing : (asked : Bool) (sink : SinkSeen) → GetsNothing sink → IfSome (if_asked asked sink) GetsNothing
 asked_nothing true sink nothing = nothing
 asked_nothing false sink nothing = tt
+
+-- a sink got a front of a text, if it did so whether or not something is asked of it
+pub asked_front : (asked : Bool) (sink : SinkSeen) (text : List ℕ) → GetsFront sink text → IfSome (if_asked asked sink) (λ s. GetsFront s text)
+asked_front true sink text front = front
+asked_front false sink text front = tt
 
 -- no more of its calls have failed than of the sink's
 pub asked_failures : (asked : Bool) (sink : SinkSeen) → sink_failures (if_asked asked sink) ≤ sink.after - sink.before
@@ -106,7 +111,7 @@ noted_so ship asked s is noted = subst (λ (b : Bool). IsNotedBy (not b) s) is n
 
 -- the sources had an input and a report: what comes of its texts is what comes of the call
 pub texts_of_call : (ship : Option Ship) (loaded : Option ℕ) (summary : Bool) (yard : Inventory) (report : List ℕ) (numbers : Numbers) (bays : List BayFollowed) (x : Texts) (asked : Bool)
-    (sink : SinkSeen) → IsFollowed yard report numbers bays → loading_faults ship bays ≡ [] → x.page ≡ page_text yard (numbers_for ship yard numbers) bays
+    (sink : SinkSeen) → IsFollowed yard report numbers bays → loading_faults ship bays ≡ [] → x.page ≡ page_text yard (numbers_for ship yard numbers) (order_for ship) bays
     → (IsTrue asked → IsListBehind yard (made_for ship loaded bays) x.list) → x.table ≡ table_for summary ship bays
     → AreTextsOf ship loaded summary yard report (is_some (if_asked asked sink)) x
 texts_of_call ship loaded summary yard report numbers bays x asked sink followed faultless page list table = record {

@@ -17,6 +17,7 @@ use Rattle.crp_follow.specs.Behind.{Made, IsListBehind, all_moves}
 use Rattle.crp_loading.specs.declared.fault.LoadingFault.{LoadingFault}
 use Rattle.crp_loading.specs.declared.fault.LoadingFault.TheVariants as loading
 use Rattle.crp_loading.specs.Faults.{faults_of, IsFirst}
+use Rattle.crp_loading.specs.Turns.{ShipOrder}
 use Rattle.crp_loading.specs.Loading.{load_text}
 use Rattle.crp_loading.specs.Loaded.{made_up_to}
 use Rattle.crp_page.specs.Page.{page_text}
@@ -139,6 +140,11 @@ abbrev pub numbers_for : Option Ship → Inventory → Numbers → OrderNumbers
 numbers_for None yard stated = Stated stated
 numbers_for (Some ship) yard stated = Counted (numbers_of yard ship.0 ship.1)
 
+-- the order of the ship on the page, where there is one
+abbrev pub order_for : Option Ship → Option ShipOrder
+order_for None = None
+order_for (Some ship) = Some (record { sequence = ship.1; orders = ship.0.list })
+
 -- the moves that were made in the yard after: those up to so many containers of the ship, where that is asked for, and else all
 abbrev pub made_for : Option Ship → Option ℕ → List BayFollowed → List Made
 made_for (Some ship) (Some n) bays = made_up_to ship.1 n bays
@@ -156,7 +162,7 @@ pub record AreTextsOf (ship : Option Ship) (loaded : Option ℕ) (summary : Bool
   pub numbers : Numbers
   pub bays : List BayFollowed
   pub is_loaded : IsLoaded ship yard report numbers bays
-  pub page : x.page ≡ page_text yard (numbers_for ship yard numbers) bays
+  pub page : x.page ≡ page_text yard (numbers_for ship yard numbers) (order_for ship) bays
   pub list : IsTrue wanted → IsListBehind yard (made_for ship loaded bays) x.list
   pub table : x.table ≡ table_for summary ship bays
 

@@ -17,7 +17,7 @@ ghost use Rattle.crp_jobs.specs.declared.outcome.ToolFault.TheVariants.{Run};
 ghost use Rattle.crp_report.specs.declared.fault.Fault.TheVariants.{Write};
 ghost use Rattle.crp_report.specs.declared.fault.Output.TheVariants.{YardAfter};
 ghost use Rattle.crp_commands.specs.Calls.{failures_of_tool_fault};
-ghost use Rattle.crp_commands.specs.Follow.{FollowEnds, FollowFails, FollowSeen, HasNoTexts, IsFollowInput, IsNoFollowInput, IsNoReport, StopsPage, StopsWriting, Texts, TextsSeen, WritesAll, WritesPart, WritesWhole, if_asked, loading_faults, made_for, numbers_for, source_failures, table_for};
+ghost use Rattle.crp_commands.specs.Follow.{FollowEnds, FollowFails, FollowSeen, HasNoTexts, IsFollowInput, IsNoFollowInput, IsNoReport, StopsPage, StopsWriting, Texts, TextsSeen, WritesAll, WritesPart, WritesWhole, if_asked, loading_faults, made_for, numbers_for, order_for, source_failures, table_for};
 ghost use Rattle.crp_commands.specs.Noted.{IsNotedBy};
 
 use crate::auditing::{InputRead, input_from};
@@ -26,7 +26,7 @@ use crp_follow::{
     FollowFault, Followed, MAX_BYTES, list_behind, move_counts, summary_text, table_text,
 };
 use crp_jobs::{Statement, ToolFault};
-use crp_loading::{LoadingFault, counts_up_to, load_table};
+use crp_loading::{LoadingFault, Ship, counts_up_to, load_table};
 use crp_movins::Orders;
 use crp_notes::note_left;
 use crp_order::Sequence;
@@ -283,6 +283,19 @@ fn numbers_for(input: &FollowInput, stated: Numbers) -> OrderNumbers
     }
 }
 
+// The order of the ship on the page, where there is one.
+fn order_for<'a>(
+    alloc: Global,
+    ship: &'a Option<(Orders, Sequence)>,
+) -> Result<Option<Ship<'a>>, AllocError>
+    ensures { IfOk result (λ order. order ≡ order_for ship.now) }
+{
+    match ship {
+        Some((orders, sequence)) => Ok(Some(Ship::new(alloc, sequence, orders)?)),
+        None => Ok(None),
+    }
+}
+
 // Writes the page of a report that is followed, where one is asked for.
 fn write_page_if<P: Sink>(
     alloc: Global,
@@ -294,7 +307,7 @@ fn write_page_if<P: Sink>(
 ) -> Result<(), ToolFault>
     requires passed { interruptions.old ≤ most_interruptions }
     requires followed { (report : List ℕ) × IsFollowed input.now.yard report followed.now.numbers (map bay_followed followed.now.bays.items) }
-    ensures ended { let text = page_text input.now.yard (numbers_for input.now.ship input.now.yard followed.now.numbers) (map bay_followed followed.now.bays.items)
+    ensures ended { let text = page_text input.now.yard (numbers_for input.now.ship input.now.yard followed.now.numbers) (order_for input.now.ship) (map bay_followed followed.now.bays.items)
         in let seen = if_asked asked (sink_seen P.contents P.failures page.old page.new)
         in MatchResult result (λ _. WritesWhole text seen) (StopsPage text seen) }
     ensures alone { OnFalse asked (page.new ≡ page.old) }
@@ -308,7 +321,18 @@ fn write_page_if<P: Sink>(
         return Ok(());
     }
     let numbers = numbers_for(input, followed.numbers);
-    match write_page(alloc, page, &input.yard, numbers, followed, interruptions) {
+    let order = order_for(alloc, &input.ship)?;
+    let written = write_page(
+        alloc,
+        page,
+        &input.yard,
+        numbers,
+        &order,
+        followed,
+        interruptions,
+    );
+    drop(order);
+    match written {
         Ok(()) => Ok(()),
         Err(WriteFault::Failed) => Err(ToolFault::WritePage),
         Err(WriteFault::Memory) => Err(ToolFault::Memory),
@@ -354,7 +378,7 @@ fn write_texts<P: Sink, A: Sink, W: Sink>(
     requires passed { interruptions.old ≤ most_interruptions }
     requires followed { (report : List ℕ) × IsFollowed input.now.yard report made.now.followed.numbers (map bay_followed made.now.followed.bays.items) }
     ensures ended { let texts : Texts = record {
-      page = page_text input.now.yard (numbers_for input.now.ship input.now.yard made.now.followed.numbers) (map bay_followed made.now.followed.bays.items);
+      page = page_text input.now.yard (numbers_for input.now.ship input.now.yard made.now.followed.numbers) (order_for input.now.ship) (map bay_followed made.now.followed.bays.items);
       list = made.now.list.items;
       table = made.now.table.items;
     } in let seen : TextsSeen = record {

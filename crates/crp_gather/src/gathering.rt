@@ -13,12 +13,13 @@ use crp_plan::Problem;
 use crp_tree::{Cert, Name, Part, Parts};
 use std::alloc::{AllocError, Global};
 
-/// Sorts the parts by name.
-fn put_in_order(parts: &mut Vec<Part>)
+/// Sorts the parts by name: the names are sorted, and then each part is moved to its place.
+fn put_in_order(parts: &mut Vec<Part>) -> Result<(), AllocError>
     ensures moved { IsPermutation parts.old.items parts.new.items }
-    ensures sorted { IsSorted (slice_cmp nat_cmp) (names_of parts.new.items) }
+    ensures sorted { OnOk result (IsSorted (slice_cmp nat_cmp) (names_of parts.new.items)) }
 {
-    parts.sort_unstable_by_key(|part| part.name().copy());
+    parts.sort_by_cached_key(|part| part.name().copy())?;
+    Ok(())
 }
 
 /// The names of the parts.
@@ -101,7 +102,7 @@ pub fn gather(alloc: Global, problem: &Problem, mut parts: Vec<Part>) -> Result<
     ensures about { IfOk result (IsAbout problem.now) }
     ensures refused { IfErr result (IsGatherFault problem.now parts.items) }
 {
-    put_in_order(&mut parts);
+    put_in_order(&mut parts)?;
     accept(alloc, problem, &parts)?;
     Ok(Cert::of_parts(Parts::from_vec(parts)))
 }

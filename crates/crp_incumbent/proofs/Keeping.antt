@@ -118,7 +118,7 @@ offers key slots id count m empty share plan s k _ at _ = let claims : ℕ = sli
 share_below : (key : Key) (claims limit : ℕ) (views : List KeyedView) (id : ℕ) (v : KeyedView) → KeepsRule key claims limit views → get_elem? views id ≡ some v → v.view.share ≤ all_shares
 share_below key claims limit views id v k at = let whole = k.whole in let h = sum-set share_of views id v gone at in omega arith
 
--- what is lent to a seat is lent, and granted once less claims are
+-- what is lent to a seat is at most what is lent in all
 loan_below : (key : Key) (claims limit : ℕ) (views : List KeyedView) (id : ℕ) (v : KeyedView) → KeepsRule key claims limit views → get_elem? views id ≡ some v → v.loan ≤ lent_in claims
 loan_below key claims limit views id v k at = let lent = k.lent in let n = sum-set loan_of views id v gone at in omega arith
 

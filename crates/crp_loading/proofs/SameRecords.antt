@@ -9,7 +9,7 @@ use Rattle.crp_movins.specs.declared.order.Order.{Order}
 use Rattle.crp_follow.specs.Followed.{BayFollowed}
 use Rattle.crp_follow.specs.Table.{MoveColumns, columns_of}
 use Rattle.crp_follow.specs.Table as table
-use Rattle.crp_loading.specs.Loading.{TurnRecord, is_turn, is_no_turn, record_at, records_of, by_turns}
+use Rattle.crp_loading.specs.Loading.{TurnRecord, is_turn, is_no_turn, record_at, turn_fields, records_of, by_turns}
 use Rattle.crp_loading.specs.Views.{AreTurns}
 use Rattle.crp_loading.proofs.Buckets.{one_more}
 use Rattle.crp_loading.proofs.RecordSteps.{are_turns}
@@ -17,11 +17,11 @@ use Rattle.crp_loading.proofs.RecordSteps.{are_turns}
 -- ---- the columns of the table of moves
 
 -- the record of a move begins with that of the table of moves
-begin_same : (sequence : List (List ℕ)) (orders : List Order) (moves : List MoveColumns) → map (λ r. take 12 r.fields) (map (record_at sequence orders) moves) ≡ map table.fields_of moves
+begin_same : (sequence : List (List ℕ)) (orders : List Order) (moves : List MoveColumns) → map (λ r. take 12 (turn_fields r)) (map (record_at sequence orders) moves) ≡ map table.fields_of moves
 begin_same sequence orders [] = refl
 begin_same sequence orders (c ∷ moves) = ap (λ l. table.fields_of c ∷ l) (begin_same sequence orders moves)
 
-pub columns_same : (sequence : List (List ℕ)) (orders : List Order) (bays : List BayFollowed) → map (λ r. take 12 r.fields) (records_of sequence orders bays) ≡ table.records_of bays
+pub columns_same : (sequence : List (List ℕ)) (orders : List Order) (bays : List BayFollowed) → map (λ r. take 12 (turn_fields r)) (records_of sequence orders bays) ≡ table.records_of bays
 columns_same sequence orders bays = begin_same sequence orders (columns_of bays)
 
 -- ---- each record once

@@ -6,7 +6,7 @@ use Rattle.std.specs.Char.{is_ascii_digit}
 use Rattle.std.proofs.lemmas.Bool.{false≢true}
 use Rattle.std.proofs.lemmas.Bool.Decides.{nat_tests}
 use Rattle.crp_movins.specs.Digits.{is_slot, slot_of, seven_digits, number_of}
-use Rattle.crp_loading.specs.Turns.{slot_text}
+use Rattle.crp_order.specs.SlotDigits.{slot_text}
 
 -- a byte is a digit
 abbrev IsDigit : ℕ → Type 0

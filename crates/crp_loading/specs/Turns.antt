@@ -1,5 +1,5 @@
 -- When the ship gets a container, and where: its turn in the sequence, and its slot.
-use Rattle.std.specs.Prelude.{ℕ, suc, ◌+◌, ◌/◌, ◌%◌, List, [], ◌∷◌, Option, Some, None, if◌then◌else◌}
+use Rattle.std.specs.Prelude.{ℕ, suc, List, [], ◌∷◌, Option, Some, None, if◌then◌else◌}
 use Rattle.std.specs.Str.{bytes_eq}
 use Rattle.crp_movins.specs.declared.order.Order.{Order}
 use Rattle.crp_movins.specs.declared.slot.Slot.{Slot}
@@ -18,11 +18,7 @@ abbrev pub slot_for : List Order → List ℕ → Option Slot
 slot_for [] container = None
 slot_for (order ∷ orders) container = if bytes_eq order.container container then Some order.slot else slot_for orders container
 
--- the last digit of a number
-abbrev pub digit : ℕ → ℕ
-digit n = 48 + n % 10
-
--- the seven digits of a slot: three of the bay, two of the row, two of the tier
-abbrev pub slot_text : Slot → List ℕ
-slot_text slot =
-    digit (slot.bay / 100) ∷ digit (slot.bay / 10) ∷ digit slot.bay ∷ digit (slot.row / 10) ∷ digit slot.row ∷ digit (slot.tier / 10) ∷ digit slot.tier ∷ []
+-- the order of the ship: the sequence in which it gets its containers, and their orders
+pub record ShipOrder : Type 0 where
+  pub sequence : List (List ℕ)
+  pub orders : List Order

@@ -1,30 +1,23 @@
--- What the types of the program stand for. Only the clauses of private functions speak of it.
-use Rattle.std.specs.Prelude.{◌≡◌, ◌≤◌, ◌++◌, ℕ, nat_le, List, [], ◌∷◌, map, IfSome}
+-- What the types of the program stand for.
+use Rattle.std.specs.Prelude.{◌≡◌, ◌≤◌, ℕ, nat_le, List, ◌∷◌, map, IfSome}
 use Rattle.std.specs.List.{list_any, AllByRecursion}
 use Rattle.std.specs.Map.{lookup}
 use Rattle.std.specs.Str.{bytes_eq}
 use denote.Ref.{Bor}
 use Rattle.crp_yard.specs.Text.{text_of_records}
-use Rattle.crp_movins.specs.declared.order.Order.{Order}
-use Rattle.crp_follow.specs.Table.{fields_of, number_field}
 use Rattle.crp_follow.specs.Views.{columns_as}
 use Rattle.crp_loading.specs.declared.recording.TurnColumns.{TurnColumns}
 use Rattle.crp_loading.specs.Turns.{number_from}
 use Rattle.crp_loading.specs.Faults.{TakeStated, is_at_or_behind}
-use Rattle.crp_loading.specs.Loading.{TurnRecord, slot_field, header}
-
--- the order of the ship: the sequence of the containers, and their orders
-pub record ShipOrder : Type 0 where
-  pub sequence : List (List ℕ)
-  pub orders : List Order
+use Rattle.crp_loading.specs.Loading.{TurnRecord, turn_fields, header}
 
 -- the entries give each of the names its number, from 0, and nothing else
 abbrev pub Numbers : List (List ℕ) → List (Bor (List ℕ) × ℕ) → Type 0
 Numbers names entries = (container : Bor (List ℕ)) → lookup (λ key. bytes_eq container.now key.now) entries ≡ number_from 0 names container.now
 
--- a record of the table, with the turn that it belongs to
+-- a move with its turn and its slot
 abbrev pub recorded : TurnColumns → TurnRecord
-recorded c = record { turn = c.turn; fields = fields_of (columns_as c.of_move) ++ number_field c.turn ∷ slot_field c.slot ∷ [] }
+recorded c = record { turn = c.turn; of_move = columns_as c.of_move; slot = c.slot }
 
 -- no take of these has a turn behind this one, and one has it, unless it is 0
 abbrev pub EndWith : List TakeStated → ℕ → Type 0
@@ -36,4 +29,4 @@ AreTurns turns records = AllByRecursion (λ r. IfSome r.turn (λ turn. (1 ≤ tu
 
 -- the text of the header and of records
 abbrev pub text_of : List TurnRecord → List ℕ
-text_of records = text_of_records (header ∷ map (λ r. r.fields) records)
+text_of records = text_of_records (header ∷ map turn_fields records)

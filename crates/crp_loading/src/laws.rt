@@ -6,16 +6,16 @@ ghost use Rattle.crp_follow.specs.Followed.{BayFollowed};
 ghost use Rattle.crp_follow.specs.Stated.{moves_of};
 ghost use Rattle.crp_follow.specs.Table.{columns_in};
 ghost use Rattle.crp_follow.specs.Table as table;
-ghost use Rattle.crp_loading.specs.Turns.{slot_text};
+ghost use Rattle.crp_order.specs.SlotDigits.{slot_text};
 ghost use Rattle.crp_loading.specs.Faults.{faults_in};
-ghost use Rattle.crp_loading.specs.Loading.{TurnRecord, records_of, by_turns};
+ghost use Rattle.crp_loading.specs.Loading.{TurnRecord, turn_fields, records_of, by_turns};
 ghost use Rattle.crp_loading.specs.Loaded.{moves_up_to, has_turn_up_to};
 
 /// The table has the records of the table of moves, with two columns more, and each of them once: whatever is counted of records comes to
 /// the same.
 pub fn same_records()
     ensures columns { (sequence : List (List ℕ)) (orders : List Order) (bays : List BayFollowed)
-        → map (λ r. take 12 r.fields) (records_of sequence orders bays) ≡ table.records_of bays }
+        → map (λ r. take 12 (turn_fields r)) (records_of sequence orders bays) ≡ table.records_of bays }
     ensures each { (count : TurnRecord → ℕ) (sequence : List (List ℕ)) (orders : List Order) (bays : List BayFollowed)
         → sum_by count (by_turns (length sequence) (records_of sequence orders bays)) ≡ sum_by count (records_of sequence orders bays) }
 {}

@@ -13,10 +13,12 @@ mod loaded;
 mod loading;
 mod recording;
 mod ship;
-mod slot_digits;
 mod turning;
 
 pub use fault::LoadingFault;
 pub use laws::{loaded_moves_have_turns, same_records, slots_are_as_ordered};
 pub use loaded::counts_up_to;
 pub use loading::load_table;
+pub use recording::TurnColumns;
+pub use ship::Ship;
+pub use turning::moves_by_turns;

@@ -9,13 +9,12 @@ ghost use Rattle.crp_loading.specs.Views.{recorded, text_of};
 
 use crate::checking::check;
 use crate::fault::LoadingFault;
-use crate::recording::{TurnColumns, records_of};
+use crate::recording::TurnColumns;
 use crate::ship::Ship;
-use crate::slot_digits::slot_digits;
-use crate::turning::by_turns;
+use crate::turning::moves_by_turns;
 use crp_follow::{Followed, Table, number_field};
 use crp_movins::{Orders, Slot};
-use crp_order::Sequence;
+use crp_order::{Sequence, slot_digits};
 use itoa::Buffer;
 use std::alloc::{AllocError, Global};
 
@@ -66,7 +65,6 @@ pub fn load_table(
 {
     let ship = Ship::new(alloc, sequence, orders)?;
     check(&ship, &followed.bays)?;
-    let records = records_of(alloc, &ship, &followed.bays)?;
-    let sorted = by_turns(sequence.list().len() as u64, records)?;
-    Ok(text_of(alloc, &sorted)?)
+    let moves = moves_by_turns(alloc, &ship, &followed.bays)?;
+    Ok(text_of(alloc, &moves)?)
 }

@@ -16,7 +16,7 @@ use std::alloc::{AllocError, Global};
 
 /// What a record says of a move: what the table of moves says, the turn that it belongs to, and the slot of the ship that it fills.
 #[derive(Clone, Copy)]
-pub(crate) struct TurnColumns<'a> {
+pub struct TurnColumns<'a> {
     pub of_move: Columns<'a>,
     pub turn: Option<u64>,
     pub slot: Option<Slot>,

@@ -1,5 +1,6 @@
 //! The order in which the ship gets its containers.
-ghost use Rattle.std.specs.Prelude.{◌≡◌, IfOk, map};
+ghost use Rattle.std.specs.Prelude.{◌≡◌, ◌≤◌, IfOk, length, map};
+ghost use Rattle.crp_movins.specs.Accepted.{max_orders};
 ghost use Rattle.crp_loading.specs.Turns.{turn_of, slot_for};
 ghost use Rattle.crp_loading.specs.Views.{Numbers};
 
@@ -12,7 +13,7 @@ use std::marker::Model;
 
 /// The sequence of the containers, and the orders, with the number of each container in either, from 0.
 #[derive(Drop)]
-pub(crate) struct Ship<'a> {
+pub struct Ship<'a> {
     sequence: &'a [Container],
     orders: &'a [Order],
     turns: HashMap<&'a [u8], usize>,
@@ -21,7 +22,8 @@ pub(crate) struct Ship<'a> {
 
 impl<'a> Model for Ship<'a> {
     ghost use Rattle.std.specs.Prelude.{◌≤◌, length};
-    ghost use Rattle.crp_loading.specs.Views.{ShipOrder, Numbers};
+    ghost use Rattle.crp_loading.specs.Turns.{ShipOrder};
+    ghost use Rattle.crp_loading.specs.Views.{Numbers};
     ghost use Rattle.crp_movins.specs.Accepted.{ordered_containers, max_orders};
 
     ghost Value = { ShipOrder };
@@ -45,7 +47,7 @@ fn numbers_of<'a>(alloc: Global, names: &[&'a [u8]]) -> Result<HashMap<&'a [u8],
 
 impl<'a> Ship<'a> {
     /// The ship that gets its containers in this sequence, and is to have them where these orders say.
-    pub(crate) fn new(
+    pub fn new(
         alloc: Global,
         sequence: &'a Sequence,
         orders: &'a Orders,
@@ -65,8 +67,16 @@ impl<'a> Ship<'a> {
         })
     }
 
+    /// The containers in the sequence in which the ship gets them.
+    pub fn sequence(&self) -> &'a [Container]
+        ensures value { result.now ≡ self.now.sequence }
+        ensures few { length result.now ≤ max_orders }
+    {
+        self.sequence
+    }
+
     /// When the ship gets a container.
-    pub(crate) fn turn_of(&self, container: &Container) -> Option<u64>
+    pub fn turn_of(&self, container: &Container) -> Option<u64>
         ensures { result ≡ turn_of self.now.sequence container.now }
     {
         match self.turns.get(container.bytes()) {
@@ -76,7 +86,7 @@ impl<'a> Ship<'a> {
     }
 
     /// Where it stands on the ship.
-    pub(crate) fn slot_for(&self, container: &Container) -> Option<Slot>
+    pub fn slot_for(&self, container: &Container) -> Option<Slot>
         ensures { result ≡ slot_for self.now.orders container.now }
     {
         match self.places.get(container.bytes()) {

@@ -4,3 +4,4 @@ mod Numbering
 mod Sums
 mod Fewness
 mod Writes
+mod Walking

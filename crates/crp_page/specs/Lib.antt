@@ -6,5 +6,6 @@ pub mod Words
 pub mod Grounds
 pub mod Summary
 pub mod Sections
+pub mod Turns
 pub mod Page
 pub mod Writing

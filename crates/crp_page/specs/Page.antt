@@ -1,13 +1,15 @@
 -- The page of a report that is followed over a yard.
-use Rattle.std.specs.Prelude.{ℕ, List, ◌++◌, length, None, codes}
+use Rattle.std.specs.Prelude.{ℕ, List, ◌++◌, length, Option, None, codes}
 use Rattle.crp_yard.specs.Inventory.{Inventory}
 use Rattle.crp_follow.specs.Followed.{BayFollowed}
+use Rattle.crp_loading.specs.Turns.{ShipOrder}
 use Rattle.crp_page.specs.declared.constants.TheConstants.{HEAD_OF_PAGE, KEY}
 use Rattle.crp_page.specs.declared.ordered.OrderNumbers.{OrderNumbers}
 use Rattle.crp_page.specs.Numbered.{numbered_text}
 use Rattle.crp_page.specs.Grounds.{sizes, hidden_ground}
 use Rattle.crp_page.specs.Summary.{paragraph, table}
 use Rattle.crp_page.specs.Sections.{section}
+use Rattle.crp_page.specs.Turns.{turns_part}
 
 -- the head, and where the body begins
 abbrev pub page_head : List ℕ → List ℕ
@@ -22,7 +24,7 @@ abbrev pub page_front : Inventory → OrderNumbers → List BayFollowed → List
 page_front yard n bays =
     page_head yard.sizes.common ++ (paragraph (length yard.bays) n bays ++ (table bays ++ page_key yard.sizes.common))
 
--- the page
-abbrev pub page_text : Inventory → OrderNumbers → List BayFollowed → List ℕ
-page_text yard n bays =
-    page_front yard n bays ++ (numbered_text (section yard.sizes) 1 bays ++ codes "</main></body></html>\n")
+-- the page, with the ship's order where there is one
+abbrev pub page_text : Inventory → OrderNumbers → Option ShipOrder → List BayFollowed → List ℕ
+page_text yard n ship bays =
+    page_front yard n bays ++ (turns_part ship bays ++ (numbered_text (section yard.sizes ship) 1 bays ++ codes "</main></body></html>\n"))

@@ -4,12 +4,13 @@ use Rattle.crp_sizes.specs.Sizes.{YardSizes, heights_of}
 use Rattle.crp_follow.specs.Stated.{moves_of}
 use Rattle.crp_follow.specs.Followed.{BayFollowed}
 use Rattle.crp_follow.specs.Table.{standing}
+use Rattle.crp_loading.specs.Turns.{ShipOrder}
 use Rattle.crp_picture.specs.Cells.{cells_of}
 use Rattle.crp_picture.specs.Frames.{Frame, frames_of}
 use Rattle.crp_picture.specs.Pictures.{ground_name, start_picture, frame_picture, end_picture}
 use Rattle.crp_page.specs.declared.grounds.Ground.{Ground}
 use Rattle.crp_page.specs.Counts.{moves_in, relocations_in, takes_in, left_in}
-use Rattle.crp_page.specs.Words.{counted, bay_name, verdict, rows_words, move_item}
+use Rattle.crp_page.specs.Words.{counted, bay_name, verdict, rows_words, move_to_slot}
 use Rattle.crp_page.specs.Grounds.{sizes, hidden_ground, ground_of}
 
 -- ---- a figure
@@ -54,9 +55,9 @@ leaving_words b = if moves_in b == 0 then [] else codes ": " ++ (decimal (takes_
 abbrev pub start_caption : BayFollowed → List ℕ
 start_caption b = codes "<p><b>Start</b> " ++ (counted (standing b.start) (codes "container") ++ (leaving_words b ++ codes "</p>"))
 
--- the moves of a frame
-abbrev pub frame_caption : Frame → List ℕ
-frame_caption f = codes "<ol start=\"" ++ (decimal f.step ++ (codes "\">" ++ (flat_map move_item (moves_of f.moves) ++ codes "</ol>")))
+-- the moves of a frame, with the slots that they fill where there is a ship
+abbrev pub frame_caption : Option ShipOrder → Frame → List ℕ
+frame_caption ship f = codes "<ol start=\"" ++ (decimal f.step ++ (codes "\">" ++ (flat_map (move_to_slot ship) (moves_of f.moves) ++ codes "</ol>")))
 
 abbrev pub end_caption : BayFollowed → List ℕ
 end_caption b = codes "<p><b>End</b> " ++ (counted (left_in b) (codes "container") ++ codes " left</p>")
@@ -66,8 +67,8 @@ end_caption b = codes "<p><b>End</b> " ++ (counted (left_in b) (codes "container
 abbrev pub start_figure : Ground → BayFollowed → List ℕ
 start_figure on b = figure on (start_title b) (start_picture on.tiers b) (start_caption b)
 
-abbrev pub frame_figure : Ground → BayFollowed → Frame → List ℕ
-frame_figure on b f = figure on (frame_title b f) (frame_picture on.tiers b f) (frame_caption f)
+abbrev pub frame_figure : Ground → Option ShipOrder → BayFollowed → Frame → List ℕ
+frame_figure on ship b f = figure on (frame_title b f) (frame_picture on.tiers b f) (frame_caption ship f)
 
 abbrev pub end_figure : Ground → BayFollowed → List ℕ
 end_figure on b = figure on (end_title b) (end_picture on.tiers b) (end_caption b)
@@ -102,6 +103,6 @@ abbrev pub section_end : Ground → BayFollowed → List ℕ
 section_end on b = end_part on b ++ codes "</div></div></section>\n"
 
 -- the section with this number
-abbrev pub section : YardSizes → ℕ → BayFollowed → List ℕ
-section yard k b =
-    section_front yard k b ++ (flat_map (frame_figure (ground_of yard k b.stated.bay) b) (frames_of b) ++ section_end (ground_of yard k b.stated.bay) b)
+abbrev pub section : YardSizes → Option ShipOrder → ℕ → BayFollowed → List ℕ
+section yard ship k b =
+    section_front yard k b ++ (flat_map (frame_figure (ground_of yard k b.stated.bay) ship b) (frames_of b) ++ section_end (ground_of yard k b.stated.bay) b)

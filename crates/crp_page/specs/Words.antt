@@ -1,5 +1,5 @@
 -- What the page says in words: numbers of things, places, containers, moves, bays and verdicts.
-use Rattle.std.specs.Prelude.{ℕ, ◌==◌, List, [], ◌∷◌, ◌++◌, flat_map, codes, decimal, if◌then◌else◌}
+use Rattle.std.specs.Prelude.{ℕ, ◌==◌, List, [], ◌∷◌, ◌++◌, flat_map, Option, Some, None, codes, decimal, if◌then◌else◌}
 use Rattle.crp_plan.specs.BayNames.{YardBay}
 use Rattle.crp_said.specs.declared.said.Said.{Said}
 use Rattle.crp_said.specs.declared.said.Said.TheVariants.{Optimal, First, NoPlan, Between}
@@ -7,7 +7,11 @@ use Rattle.crp_said.specs.declared.moves.Place.{Place}
 use Rattle.crp_said.specs.declared.moves.SaidMove.{SaidMove}
 use Rattle.crp_said.specs.declared.moves.SaidMove.TheVariants.{Shift, Take}
 use Rattle.crp_said.specs.Said.{said_words}
+use Rattle.crp_movins.specs.declared.slot.Slot.{Slot}
+use Rattle.crp_order.specs.SlotDigits.{slot_text}
 use Rattle.crp_follow.specs.Crane.{Stack}
+use Rattle.crp_loading.specs.Turns.{ShipOrder}
+use Rattle.crp_loading.specs.Loading.{slot_at}
 use Rattle.crp_picture.specs.Names.{front_of, last_four, escaped}
 use Rattle.crp_page.specs.Numbered.{numbered_text}
 
@@ -36,6 +40,19 @@ move_in_item (Take from container) = codes "<li class=\"t\">take " ++ lifted_wor
 
 abbrev pub move_item : SaidMove → List ℕ
 move_item m = move_in_item m ++ codes "</li>"
+
+-- the slot of the ship that a move fills, where there is a ship
+abbrev pub slot_of : Option ShipOrder → SaidMove → Option Slot
+slot_of None m = None
+slot_of (Some ship) m = slot_at ship.orders m
+
+abbrev pub slot_words : Option Slot → List ℕ
+slot_words None = []
+slot_words (Some slot) = codes " to slot " ++ slot_text slot
+
+-- a move as an item, with the slot that it fills
+abbrev pub move_to_slot : Option ShipOrder → SaidMove → List ℕ
+move_to_slot ship m = move_in_item m ++ (slot_words (slot_of ship m) ++ codes "</li>")
 
 -- the name of a bay
 abbrev pub bay_name : YardBay → List ℕ

@@ -5,13 +5,14 @@ ghost use Rattle.crp_follow.specs.Table.{StandFew};
 ghost use Rattle.crp_follow.specs.Views.{bay_followed};
 ghost use Rattle.crp_picture.specs.Views.{frame_as};
 ghost use Rattle.crp_page.specs.Few.{LeaveFew};
-ghost use Rattle.crp_page.specs.Words.{move_item};
+ghost use Rattle.crp_page.specs.Words.{move_to_slot};
 ghost use Rattle.crp_page.specs.Sections.{figure_head, figure_body, figure, bay_title, start_title, frame_title, end_title, leaving_words, start_caption, frame_caption, end_caption, start_figure, frame_figure, end_figure};
 
 use crate::grounds::Ground;
-use crate::words::{push_bay_name, push_counted, push_move, push_rows};
+use crate::words::{push_bay_name, push_counted, push_move_to_slot, push_rows};
 use crp_cert::push_decimal;
 use crp_follow::{FollowedBay, StatedMove, relocations_of, standing};
+use crp_loading::Ship;
 use crp_picture::{
     DrawnBay, Frame, count_blocking, push_end, push_frame, push_ground_name, push_start,
 };
@@ -135,24 +136,32 @@ fn push_start_caption(
     Ok(())
 }
 
-/// Adds moves.
-fn push_moves(text: &mut Vec<u8>, moves: &[StatedMove]) -> Result<(), AllocError>
-    ensures { OnOk result (text.new.items ≡ text.old.items ++ flat_map move_item (moves_of moves.now)) }
+/// Adds moves, with the slots that they fill.
+fn push_moves(
+    text: &mut Vec<u8>,
+    ship: &Option<Ship<'_>>,
+    moves: &[StatedMove],
+) -> Result<(), AllocError>
+    ensures { OnOk result (text.new.items ≡ text.old.items ++ flat_map (move_to_slot ship.now) (moves_of moves.now)) }
 {
     for stated in moves {
-        push_move(text, &stated.said)?;
+        push_move_to_slot(text, ship, &stated.said)?;
     }
     Ok(())
 }
 
 /// Adds the caption of a frame.
-fn push_frame_caption(text: &mut Vec<u8>, frame: &Frame<'_>) -> Result<(), AllocError>
-    ensures { OnOk result (text.new.items ≡ text.old.items ++ frame_caption (frame_as frame.now)) }
+fn push_frame_caption(
+    text: &mut Vec<u8>,
+    ship: &Option<Ship<'_>>,
+    frame: &Frame<'_>,
+) -> Result<(), AllocError>
+    ensures { OnOk result (text.new.items ≡ text.old.items ++ frame_caption ship.now (frame_as frame.now)) }
 {
     text.extend_from_slice(b"<ol start=\"")?;
     push_decimal(text, frame.step)?;
     text.extend_from_slice(b"\">")?;
-    push_moves(text, frame.moves)?;
+    push_moves(text, ship, frame.moves)?;
     text.extend_from_slice(b"</ol>")?;
     Ok(())
 }
@@ -190,15 +199,16 @@ pub(crate) fn push_frame_figure(
     alloc: Global,
     text: &mut Vec<u8>,
     on: Ground,
+    ship: &Option<Ship<'_>>,
     bay: &DrawnBay<'_>,
     frame: &Frame<'_>,
 ) -> Result<(), AllocError>
-    ensures { OnOk result (text.new.items ≡ text.old.items ++ frame_figure on bay.now (frame_as frame.now)) }
+    ensures { OnOk result (text.new.items ≡ text.old.items ++ frame_figure on ship.now bay.now (frame_as frame.now)) }
 {
     let (mut title, mut picture, mut caption) = (Vec::new(alloc), Vec::new(alloc), Vec::new(alloc));
     push_frame_title(&mut title, bay.followed(), frame)?;
     push_frame(alloc, &mut picture, on.tiers, bay, frame)?;
-    push_frame_caption(&mut caption, frame)?;
+    push_frame_caption(&mut caption, ship, frame)?;
     push_figure(text, on, &title, &picture, &caption)
 }
 

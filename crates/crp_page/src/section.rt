@@ -12,6 +12,7 @@ use crate::grounds::{Ground, ground_of, push_hidden_ground, push_sizes};
 use crate::words::{push_counted, push_verdict};
 use crp_cert::push_decimal;
 use crp_follow::{FollowedBay, relocations_of};
+use crp_loading::Ship;
 use crp_picture::{DrawnBay, Frame};
 use crp_sizes::Sizes;
 use std::alloc::{AllocError, Global};
@@ -107,13 +108,14 @@ pub(crate) fn section_front(
 pub(crate) fn frame_text(
     alloc: Global,
     on: Ground,
+    ship: &Option<Ship<'_>>,
     bay: &DrawnBay<'_>,
     frame: &Frame<'_>,
 ) -> Result<Vec<u8>, AllocError>
-    ensures { IfOk result (λ text. text.items ≡ frame_figure on bay.now (frame_as frame.now)) }
+    ensures { IfOk result (λ text. text.items ≡ frame_figure on ship.now bay.now (frame_as frame.now)) }
 {
     let mut text = Vec::new(alloc);
-    push_frame_figure(alloc, &mut text, on, bay, frame)?;
+    push_frame_figure(alloc, &mut text, on, ship, bay, frame)?;
     Ok(text)
 }
 

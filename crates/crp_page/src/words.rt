@@ -1,10 +1,13 @@
 //! What the page says in words.
 ghost use Rattle.std.specs.Prelude.{◌≡◌, ◌++◌, ◌∷◌, map, flat_map, codes, OnOk};
 ghost use Rattle.crp_picture.specs.Names.{escaped};
-ghost use Rattle.crp_page.specs.Words.{counted, place_words, code_of, code, lifted_words, move_in_item, move_item, bay_name, kind_of, verdict, stack_words, row_words, rows_words};
+ghost use Rattle.crp_page.specs.Words.{counted, place_words, code_of, code, lifted_words, move_in_item, move_item, slot_of, slot_words, move_to_slot, bay_name, kind_of, verdict, stack_words, row_words, rows_words};
 
 use crp_cert::push_decimal;
 use crp_follow::Row;
+use crp_loading::Ship;
+use crp_movins::Slot;
+use crp_order::slot_digits;
 use crp_picture::{cut_name, push_escaped};
 use crp_plan::{BayName, Container};
 use crp_said::{Place, Said, SaidMove, push_said};
@@ -24,7 +27,7 @@ pub(crate) fn push_counted(text: &mut Vec<u8>, n: u64, one: &[u8]) -> Result<(),
 }
 
 /// Adds a place.
-fn push_place(text: &mut Vec<u8>, place: Place) -> Result<(), AllocError>
+pub(crate) fn push_place(text: &mut Vec<u8>, place: Place) -> Result<(), AllocError>
     ensures { OnOk result (text.new.items ≡ text.old.items ++ place_words place) }
 {
     push_decimal(text, place.row)?;
@@ -44,7 +47,7 @@ fn push_code_of(text: &mut Vec<u8>, front: &[u8], last: &[u8]) -> Result<(), All
 }
 
 /// Adds a container.
-fn push_code(text: &mut Vec<u8>, container: &Container) -> Result<(), AllocError>
+pub(crate) fn push_code(text: &mut Vec<u8>, container: &Container) -> Result<(), AllocError>
     ensures { OnOk result (text.new.items ≡ text.old.items ++ code container.now) }
 {
     let (front, last) = cut_name(container.bytes());
@@ -61,7 +64,7 @@ fn push_lifted(text: &mut Vec<u8>, container: &Container, from: Place) -> Result
 }
 
 /// Adds a move, up to the end of its item.
-fn push_move_in_item(text: &mut Vec<u8>, said: &SaidMove) -> Result<(), AllocError>
+pub(crate) fn push_move_in_item(text: &mut Vec<u8>, said: &SaidMove) -> Result<(), AllocError>
     ensures { OnOk result (text.new.items ≡ text.old.items ++ move_in_item said.now) }
 {
     match said {
@@ -88,6 +91,44 @@ pub(crate) fn push_move(text: &mut Vec<u8>, said: &SaidMove) -> Result<(), Alloc
 {
     push_move_in_item(text, said)?;
     text.extend_from_slice(b"</li>")
+}
+
+/// The slot of the ship that a move fills, where there is a ship.
+fn slot_of(ship: &Option<Ship<'_>>, said: &SaidMove) -> Option<Slot>
+    ensures { result ≡ slot_of ship.now said.now }
+{
+    match (ship, said) {
+        (Some(ship), SaidMove::Take { container, .. }) => ship.slot_for(container),
+        _ => None,
+    }
+}
+
+/// Adds it, if it is one.
+fn push_slot_words(text: &mut Vec<u8>, slot: Option<Slot>) -> Result<(), AllocError>
+    ensures { OnOk result (text.new.items ≡ text.old.items ++ slot_words slot) }
+{
+    match slot {
+        Some(slot) => {
+            let digits = slot_digits(slot);
+            text.extend_from_slice(b" to slot ")?;
+            text.extend_from_slice(digits.as_slice())
+        }
+        None => Ok(()),
+    }
+}
+
+/// Adds a move, with the slot that it fills.
+pub(crate) fn push_move_to_slot(
+    text: &mut Vec<u8>,
+    ship: &Option<Ship<'_>>,
+    said: &SaidMove,
+) -> Result<(), AllocError>
+    ensures { OnOk result (text.new.items ≡ text.old.items ++ move_to_slot ship.now said.now) }
+{
+    push_move_in_item(text, said)?;
+    push_slot_words(text, slot_of(ship, said))?;
+    text.extend_from_slice(b"</li>")?;
+    Ok(())
 }
 
 /// Adds the name of a bay.

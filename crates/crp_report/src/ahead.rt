@@ -17,7 +17,10 @@ use std::sync::atomic::{AtomicUsize, Ordering};
 use std::thread;
 use std::thread::Threads;
 
-// The most expansions of one worker in a search of a bay that it has for itself.
+// The most expansions of one worker in a search of a bay that it has for itself: so many for the bay and for each that nobody has taken
+// yet, so that no worker is long behind the others when none is left, and no more than so many.
+const EACH: u64 = 1 << 12;
+
 const MOST: u64 = 1 << 20;
 
 // The most bays for each worker whose answers wait.
@@ -62,13 +65,14 @@ fn look_at<T: Threads + Wait + Sync, K: Clock + Sync>(
     timer: &Timer<'_, K>,
     bays: &[BayProblem],
     settings: Settings,
+    most: u64,
     place: usize,
 ) -> Option<Look>
     ensures { IfSome result (IsOfPlace settings bays.now) }
 {
     let bay = bays.get(place)?;
     let gate = timer.gate(&NoGate, settings.time());
-    let solved = look(rt, alloc, &bay.problem, settings, MOST, &gate)?;
+    let solved = look(rt, alloc, &bay.problem, settings, most, &gate)?;
     let Ok(texts) = texts_of_bay(alloc, bay, &solved) else {
         return None;
     };
@@ -123,7 +127,8 @@ fn look_on<T: Threads + Wait + Sync, K: Clock + Sync>(
         if place < from || place >= bays.len() {
             break;
         }
-        let look = look_at(rt, alloc, timer, bays, settings, place);
+        let most = EACH.saturating_mul((place - from) as u64 + 1).min(MOST);
+        let look = look_at(rt, alloc, timer, bays, settings, most, place);
         share.bytes.fetch_add(bytes_of(&look), Ordering::SeqCst);
         keep_one(&mut found, look);
     }

@@ -1,10 +1,13 @@
 -- A symbol more at the end of a row, or one less at its front.
-use Rattle.std.proofs.Common.{◌≡◌, ℕ, suc, false, List, [], ◌∷◌, ◌++◌, length, map, refl, sym, ap, ◌∙◌, arith}
+use Rattle.std.proofs.Common.{◌≡◌, ℕ, suc, ◌==◌, ◌||◌, false, not, List, [], ◌∷◌, ◌++◌, length, map, refl, sym, ap, ◌∙◌, arith}
+use Rattle.std.specs.List.{list_any}
+use Rattle.std.proofs.Math.Bool.{or-false}
 use Rattle.std.proofs.lemmas.List.{length-map}
+use Rattle.std.proofs.lemmas.List.Folds.{list_any-append}
 use Rattle.crp_row.specs.Symbol.{CutB, CutL, CutR, Branch, Given}
 use Rattle.crp_row.specs.declared.kind.Kind.{Kind}
 use Rattle.crp_row.specs.declared.kind.Kind.TheVariants as kind
-use Rattle.crp_row.specs.Rows.{symbol_of, has_text, kind_of, symbols_of, texts_in}
+use Rattle.crp_row.specs.Rows.{symbol_of, has_text, gives_away, kind_of, symbols_of, texts_in}
 
 -- one without a text
 alone : (k : Kind) (texts : List (List ℕ)) (text : List ℕ) → has_text k ≡ false → symbols_of (k ∷ []) texts ≡ symbol_of k text ∷ []
@@ -87,3 +90,19 @@ fewer_texts kind.Given kinds none = refl
 -- and there are as many
 pub as_many : (kinds : List Kind) (texts : List (List ℕ)) → length (symbols_of kinds texts) ≡ length kinds
 as_many kinds texts = sym (length-map (symbols_of kinds texts) kind_of) ∙ ap length (same_kinds kinds texts)
+
+-- one gives a subtree away, with one more
+pub one_more_gives : (kinds : List Kind) (k : Kind) → list_any gives_away (kinds ++ k ∷ []) ≡ (list_any gives_away kinds || gives_away k)
+one_more_gives kinds k = list_any-append gives_away kinds (k ∷ []) ∙ ap (λ b. list_any gives_away kinds || b) (or-false (gives_away k))
+
+-- one has a text where there are texts
+pub some_text : (kinds : List Kind) (texts : List (List ℕ)) → texts_in kinds ≡ length texts → not (length texts == 0) ≡ list_any has_text (map kind_of (symbols_of kinds texts))
+some_text kinds texts all = ap (λ n. not (n == 0)) (sym all) ∙ counted kinds ∙ ap (list_any has_text) (sym (same_kinds kinds texts))
+  where
+    counted : (kinds : List Kind) → not (texts_in kinds == 0) ≡ list_any has_text kinds
+    counted [] = refl
+    counted (kind.CutB ∷ kinds) = counted kinds
+    counted (kind.CutL ∷ kinds) = counted kinds
+    counted (kind.CutR bound ∷ kinds) = grind (arith)
+    counted (kind.Branch n ∷ kinds) = counted kinds
+    counted (kind.Given ∷ kinds) = counted kinds

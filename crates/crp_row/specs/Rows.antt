@@ -23,6 +23,14 @@ has_text (kind.CutR bound) = true
 has_text (kind.Branch n) = false
 has_text kind.Given = false
 
+-- a symbol of this kind gives a subtree away
+abbrev pub gives_away : Kind → Bool
+gives_away kind.CutB = false
+gives_away kind.CutL = false
+gives_away (kind.CutR bound) = false
+gives_away (kind.Branch n) = false
+gives_away kind.Given = true
+
 -- what a symbol is
 abbrev pub kind_of : Symbol → Kind
 kind_of CutB = kind.CutB

@@ -1,5 +1,5 @@
 ghost use Rattle.std.specs.Prelude.{◌≡◌};
-ghost use Rattle.crp_row.specs.Rows.{has_text as takes_text};
+ghost use Rattle.crp_row.specs.Rows.{has_text as takes_text, gives_away as gives_subtree};
 
 /// What a symbol of a search tree is.
 #[derive(Clone, Copy, Debug, Drop, PartialEq, Eq)]
@@ -23,5 +23,16 @@ pub(crate) fn has_text(kind: Kind) -> bool
     match kind {
         Kind::CutR(_) => true,
         Kind::CutB | Kind::CutL | Kind::Branch(_) | Kind::Given => false,
+    }
+}
+
+/// Whether a symbol of this kind gives a subtree away.
+#[inline]
+pub(crate) fn gives_away(kind: Kind) -> bool
+    ensures { result ≡ gives_subtree kind }
+{
+    match kind {
+        Kind::Given => true,
+        Kind::CutB | Kind::CutL | Kind::CutR(_) | Kind::Branch(_) => false,
     }
 }

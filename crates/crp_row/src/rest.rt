@@ -1,5 +1,6 @@
 ghost use Rattle.std.specs.Prelude.{◌≡◌, [], ◌∷◌, length, map, IfSome, IfNone};
-ghost use Rattle.crp_row.specs.Rows.{symbol_of, kind_of};
+ghost use Rattle.std.specs.List.{list_any};
+ghost use Rattle.crp_row.specs.Rows.{symbol_of, kind_of, has_text as takes_text};
 
 use crate::kind::{Kind, has_text};
 use crate::text::Text;
@@ -61,6 +62,13 @@ impl<'a> Rest<'a> {
         ensures { result.now ≡ map kind_of self.now }
     {
         self.kinds
+    }
+
+    /// Whether one of them has reasons. It looks at none.
+    pub fn has_reasons(&self) -> bool
+        ensures { result ≡ list_any takes_text (map kind_of self.now) }
+    {
+        !self.texts.is_empty()
     }
 
     /// The next symbol, which is no longer left then: what it is, and the text of its reasons; that of a symbol without reasons is empty.

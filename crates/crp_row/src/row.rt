@@ -1,8 +1,9 @@
-ghost use Rattle.std.specs.Prelude.{◌≡◌, ◌<◌, ◌++◌, ◌∷◌, [], false, OnOk, OnErr};
+ghost use Rattle.std.specs.Prelude.{◌≡◌, ◌<◌, ◌++◌, ◌∷◌, [], false, map, OnOk, OnErr};
+ghost use Rattle.std.specs.List.{list_any};
 ghost use Rattle.crp_row.specs.Symbol.{CutR};
-ghost use Rattle.crp_row.specs.Rows.{symbol_of, has_text as takes_text};
+ghost use Rattle.crp_row.specs.Rows.{symbol_of, kind_of, has_text as takes_text, gives_away as gives_subtree};
 
-use crate::kind::{Kind, has_text};
+use crate::kind::{Kind, gives_away};
 use crate::rest::Rest;
 use crate::text::Text;
 use std::alloc::{AllocError, Global};
@@ -14,11 +15,13 @@ pub struct Row {
     alloc: Global,
     kinds: Vec<Kind>,
     texts: Vec<Text>,
+    gives: bool,
 }
 
 impl Model for Row {
     ghost use Rattle.std.specs.Prelude.{◌≡◌, ◌-◌, length, vec_len, vec_capacity};
-    ghost use Rattle.crp_row.specs.Rows.{Row as Kept, symbols_of, texts_in, row_code};
+    ghost use Rattle.std.specs.List.{list_any};
+    ghost use Rattle.crp_row.specs.Rows.{Row as Kept, symbols_of, texts_in, gives_away as gives_subtree, row_code};
 
     ghost Value = { Kept };
 
@@ -26,7 +29,7 @@ impl Model for Row {
 
     ghost view = { λ r. record { symbols = symbols_of r.kinds.items r.texts.items; room = vec_capacity r.kinds - vec_len r.kinds } };
 
-    ghost invariant = { λ r. texts_in r.kinds.items ≡ length r.texts.items };
+    ghost invariant = { λ r. (texts_in r.kinds.items ≡ length r.texts.items) × (r.gives ≡ list_any gives_subtree r.kinds.items) };
 }
 
 impl Row {
@@ -38,6 +41,7 @@ impl Row {
             alloc,
             kinds: Vec::new(alloc),
             texts: Vec::new(alloc),
+            gives: false,
         }
     }
 
@@ -61,6 +65,7 @@ impl Row {
         ensures { self.new.symbols ≡ self.old.symbols ++ symbol_of kind [] ∷ [] }
     {
         self.kinds.push_reserved(kind);
+        self.gives |= gives_away(kind);
     }
 
     /// Adds a cut by reasons with a copy of their text; they show that so many relocations are still to come.
@@ -86,6 +91,13 @@ impl Row {
         self.make_room()?;
         self.push_reserved(kind);
         Ok(())
+    }
+
+    /// Whether one of its symbols gives a subtree away. It looks at none.
+    pub fn gives(&self) -> bool
+        ensures { result ≡ list_any gives_subtree (map kind_of self.now.symbols) }
+    {
+        self.gives
     }
 
     /// Its symbols, to be read.

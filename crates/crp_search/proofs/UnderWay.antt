@@ -6,7 +6,10 @@ use Rattle.crp_plan.specs.Bay.{Problem, IsProblem, Position, IsAt}
 use Rattle.crp_plan.proofs.Steps.{short_path}
 use Rattle.crp_bay.specs.Positions.{targets, child}
 use Rattle.crp_bay.specs.Back.{PlaceAndTrail}
-use Rattle.crp_bay.proofs.Walked.{target_goes_on}
+use Rattle.crp_bay.proofs.Walked.{target_goes_on, allows}
+use Rattle.crp_bay.proofs.Reaching.{can_from_target}
+use Rattle.crp_bounds.specs.declared.mover.Mover.{Mover}
+use Rattle.crp_bounds.specs.Moving.{IsMover}
 use Rattle.crp_row.specs.Symbol.{Symbol}
 use Rattle.crp_row.specs.Symbol as symbol
 use Rattle.crp_tree.specs.Tree.{Tree, CutB, CutL, CutR, Branch, Given}
@@ -37,10 +40,15 @@ spot_at x = record { path = x.path; place = x.stand.place }
 abbrev pub owed_in : Stand → Frame → List Spot
 owed_in x f = spots_below x.path x.stand.place (drop f.done f.rows.items)
 
+-- where one is left to leave, this is the container that relocations move
+abbrev pub Moves : Mover → Position → Type 0
+Moves m s = s.next ≤ s.ordered → IsMover m s
+
 -- it is the frame of a branch there
 pub record IsFrameAt (p : Problem) (x : Stand) (f : Frame) : Type 0 where
   pub at : IsAt p x.path x.stand.place
   pub rows : f.rows.items ≡ targets x.stand.place
+  pub mover : Moves f.mover x.stand.place
 
 -- one row further
 pub record IsChild (before now : Stand) : Type 0 where
@@ -85,26 +93,26 @@ pub record Turned (p : Problem) (first now : Stand) (g : Frame) (above : List Fr
 turned : (p : Problem) (first now : Stand) (f g : Frame) (above : List Frame) (owed : List Spot) (row : ℕ) → AreFrames p first now f above owed → TakesTurn f g row → Turned p first now g above owed row
 turned p first now f g [] owed row h t =
     let at = h.1 in
-    record { others = owed_in now g; is = h.2 ∙ owed_turn now f g row t; frames = (h.0, record { at = at.at; rows = t.rows ∙ at.rows }, refl) }
+    record { others = owed_in now g; is = h.2 ∙ owed_turn now f g row t; frames = (h.0, record { at = at.at; rows = t.rows ∙ at.rows; mover = subst (λ m. Moves m now.stand.place) (sym t.mover) at.mover }, refl) }
 turned p first now f g (upper ∷ above) owed row h t =
     let at = h.2 in
     record {
       others = owed_in now g ++ h.3.0;
       is = h.3.1 ∙ ap (λ l. l ++ h.3.0) (owed_turn now f g row t);
-      frames = (h.0, h.1, record { at = at.at; rows = t.rows ∙ at.rows }, (h.3.0, refl, h.3.2));
+      frames = (h.0, h.1, record { at = at.at; rows = t.rows ∙ at.rows; mover = subst (λ m. Moves m now.stand.place) (sym t.mover) at.mover }, (h.3.0, refl, h.3.2));
     }
 
 -- ---- the walk
 
 -- the first node has a frame
-pub sets_out : (p : Problem) (first : Stand) (f : Frame) (path text : List ℕ) (n : ℕ) → IsAt p first.path first.stand.place → path ≡ first.path → f.rows.items ≡ targets first.stand.place → f.done ≡ 0 →
+pub sets_out : (p : Problem) (first : Stand) (f : Frame) (path text : List ℕ) (n : ℕ) → IsAt p first.path first.stand.place → path ≡ first.path → f.rows.items ≡ targets first.stand.place → f.done ≡ 0 → Moves f.mover first.stand.place →
     n ≡ length f.rows.items → IsUnderWay p first first f [] (symbol.Branch n ∷ []) (met_at path first.stand.place text None)
-sets_out p first f path text n at here rows done many = subst (λ l. IsUnderWay p first first f [] (symbol.Branch n ∷ []) (met_at l first.stand.place text None)) (sym here) (record {
+sets_out p first f path text n at here rows done moves many = subst (λ l. IsUnderWay p first first f [] (symbol.Branch n ∷ []) (met_at l first.stand.place text None)) (sym here) (record {
   owed = spots_below first.path first.stand.place (targets first.stand.place) ++ [];
   walked = walk_more (spot_at first) [] [] (spot_at first) [] (symbol.Branch n) (walk_begins (spot_at first)) (many ∙ ap length rows);
   frames = (
     refl,
-    record { at = at; rows = rows },
+    record { at = at; rows = rows; mover = moves },
     append-nil (spots_below first.path first.stand.place (targets first.stand.place)) ∙ ap (spots_below first.path first.stand.place) (sym rows)
         ∙ ap (λ n. spots_below first.path first.stand.place (drop n f.rows.items)) (sym done),
   );
@@ -191,6 +199,13 @@ module _ {p : Problem} {first now : Stand} {f : Frame} {above : List Frame} {lis
     pub turn_leads : IsProblem p → IsAt p (now.path ++ row ∷ []) (child now.stand.place row)
     turn_leads is = target_goes_on p now.path now.stand.place row is stands_at legal_turn
 
+    -- and the frame knows the container that moves
+    pub turn_moves : IsMover g.mover now.stand.place
+    turn_moves =
+        let k = here in
+        let a = allows now.stand.place row (can_from_target now.stand.place row legal_turn) in
+        subst (λ m. IsMover m now.stand.place) (sym t.mover) (k.mover a.unfinished)
+
     -- so the path is not of full length
     pub still_short : IsProblem p → length now.path < 672
     still_short is = omega (arith, short_path p (now.path ++ row ∷ []) (child now.stand.place row) is (turn_leads is), length-append now.path (row ∷ []))
@@ -208,9 +223,9 @@ module _ {p : Problem} {first now : Stand} {f : Frame} {above : List Frame} {lis
 
     -- or it has a frame
     pub goes_down : (deep : Stand) (fresh : Frame) (path text : List ℕ) (n : ℕ) → IsProblem p → path ≡ deep.path → deep.path ≡ now.path ++ row ∷ [] →
-        deep.stand ≡ record { place = child now.stand.place row; trail = now.stand.place ∷ now.stand.trail } → fresh.rows.items ≡ targets deep.stand.place → fresh.done ≡ 0 → n ≡ length fresh.rows.items →
+        deep.stand ≡ record { place = child now.stand.place row; trail = now.stand.place ∷ now.stand.trail } → fresh.rows.items ≡ targets deep.stand.place → fresh.done ≡ 0 → Moves fresh.mover deep.stand.place → n ≡ length fresh.rows.items →
         IsUnderWay p first deep fresh (g ∷ above) (list ++ symbol.Branch n ∷ []) (met ++ met_at path (child now.stand.place row) text None)
-    goes_down deep fresh path text n is same deeper stand rows done many =
+    goes_down deep fresh path text n is same deeper stand rows done moves many =
         let k = turned p first now f g above h.owed row h.frames t in
         let place : deep.stand.place ≡ child now.stand.place row = ap (λ (v : PlaceAndTrail). v.place) stand in
         let spot : spot_below now.path now.stand.place row ≡ spot_at deep =
@@ -225,7 +240,7 @@ module _ {p : Problem} {first now : Stand} {f : Frame} {above : List Frame} {lis
           frames = (
             now,
             record { row = row; path = deeper; stand = stand },
-            record { at = at; rows = rows },
+            record { at = at; rows = rows; mover = moves },
             (
               k.others,
               ap (λ l. spots_below deep.path deep.stand.place l ++ k.others) (sym rows) ∙ ap (λ m. spots_below deep.path deep.stand.place (drop m fresh.rows.items) ++ k.others) (sym done),

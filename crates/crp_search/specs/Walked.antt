@@ -42,3 +42,4 @@ pub record TakesTurn (f g : Frame) (row : ℕ) : Type 0 where
   pub row_is : row ≡ slice_index f.rows.items f.done
   pub done : g.done ≡ f.done + 1
   pub rows : g.rows.items ≡ f.rows.items
+  pub mover : g.mover ≡ f.mover

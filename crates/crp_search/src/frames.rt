@@ -1,10 +1,11 @@
 //! The branches that a search is in.
 ghost use Rattle.std.specs.Prelude.{◌≡◌, ◌≤◌, length, IfSome, IfNone};
 ghost use Rattle.crp_bay.specs.Positions.{targets};
+ghost use Rattle.crp_bounds.specs.Moving.{IsMover};
 ghost use Rattle.crp_search.specs.Walked.{TakesTurn};
 
 use arrayvec::ArrayVec;
-use crp_bay::Position;
+use crp_bounds::{Bounded, Mover};
 use crp_plan::MAX_ROWS;
 use crp_row::Kind;
 use crp_tree::Tree;
@@ -23,27 +24,33 @@ pub struct Closed {
     pub floor: u32,
 }
 
-/// A branch whose legal rows are searched in turn: the rows, rising, and how many of them had their turn.
+/// A branch whose legal rows are searched in turn: the container that moves there, the rows, rising, and how many of them had their
+/// turn.
 #[derive(Drop)]
 pub struct Frame {
+    pub mover: Mover,
     rows: ArrayVec<u8, MAX_ROWS>,
     done: usize,
 }
 
 impl Frame {
     /// The branch at a position before its first row.
-    pub fn at(position: &Position) -> Frame
-        ensures rows { result.rows.items ≡ targets position.now.place }
+    #[inline]
+    pub fn at(place: &Bounded) -> Frame
+        ensures mover { place.now.place.next ≤ place.now.place.ordered → IsMover result.mover place.now.place }
+        ensures rows { result.rows.items ≡ targets place.now.place }
         ensures few { length result.rows.items ≤ 12 }
         ensures done { result.done ≡ 0 }
     {
         Frame {
-            rows: position.targets(),
+            mover: place.mover(),
+            rows: place.position().targets(),
             done: 0,
         }
     }
 
     /// What the symbol of the branch is.
+    #[inline]
     pub fn kind(&self) -> Kind
         ensures { result ≡ Kind.Branch (length self.now.rows.items) }
     {
@@ -51,6 +58,7 @@ impl Frame {
     }
 
     /// The row whose turn it is. `None` where each row had its turn.
+    #[inline]
     pub fn turn(&mut self) -> Option<u8>
         ensures turn { IfSome result (TakesTurn self.old self.new) }
         ensures none { IfNone result (length self.old.rows.items ≤ self.old.done) }

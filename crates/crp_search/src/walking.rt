@@ -4,6 +4,7 @@ ghost use Rattle.crp_plan.specs.Bay.{IsAt, IsProblem, Position as Place, cap};
 ghost use Rattle.crp_plan.specs.Faults.{IsPlanPath};
 ghost use Rattle.crp_bay.specs.Positions.{child, targets};
 ghost use Rattle.crp_bounds.specs.Bounds.{blocking as blocking_bound, look_ahead as look_ahead_bound};
+ghost use Rattle.crp_bounds.specs.Moving.{IsMover};
 ghost use Rattle.crp_tree.specs.Mark.{B};
 ghost use Rattle.crp_tree.specs.Trees.{IsGivenAway, Fits, Node, nodes, least_value};
 ghost use Rattle.crp_tree.specs.Parts.{IsKeptPart, nodes_of};
@@ -17,7 +18,7 @@ use crate::reasons::Way;
 use crate::seeking::Seek;
 use crate::walk_end::WalkEnd;
 use arrayvec::ArrayVec;
-use crp_bounds::Bounded;
+use crp_bounds::{Bounded, Mover};
 use crp_plan::{MAX_RELOCATIONS, Plan, Problem};
 use crp_row::{Kind, Row};
 use crp_tree::{MAX_NAME, Name, Part, Tree};
@@ -25,6 +26,7 @@ use std::alloc::{AllocError, Global};
 use std::mem;
 
 /// A node that is closed by a cut of the value, below a floor.
+#[inline]
 fn cut(kind: Kind, value: u32, floor: u32) -> Closed
     ensures { result ≡ record { kind = kind; floor = min value floor } }
 {
@@ -35,6 +37,7 @@ fn cut(kind: Kind, value: u32, floor: u32) -> Closed
 }
 
 /// The cut by the look-ahead bound, where length plus that bound suffices. It counts no further than the floor.
+#[inline]
 fn reaching_cut(place: &Bounded, path: &[u8], bar: u64, floor: u32) -> Option<Closed>
     requires { length path.now ≤ 672 }
     ensures value { IfSome result (λ closed. closed ≡ record { kind = Kind.CutL; floor = min (length path.now + look_ahead_bound place.now.place) floor }) }
@@ -87,6 +90,7 @@ fn take_plan<S: Seek, L: Limit>(problem: &Problem, path: &[u8], seek: &mut S, li
 ///
 /// A finished node is a cut by the blocking bound, once its plan is taken; another is one by the look-ahead bound, where length plus
 /// that bound suffices or where a claim is refused, unless the blocking bound is as high; or one by reasons.
+#[inline(always)]
 fn close_below<S: Seek, L: Limit>(
     problem: &Problem,
     place: &Bounded,
@@ -148,6 +152,7 @@ fn close<S: Seek, L: Limit>(
 }
 
 /// Puts the name of the path where it has at most `split` rows, and answers whether it was accepted.
+#[inline]
 fn give<L: Limit>(path: &[u8], split: u8, limit: &mut L) -> bool
     requires { split ≤ 8 }
     ensures short { IsTrue result → length path.now ≤ split }
@@ -169,10 +174,12 @@ fn give<L: Limit>(path: &[u8], split: u8, limit: &mut L) -> bool
 ///
 /// A child for which the blocking bound suffices is closed before the relocation: a finished one has no blocking, so its plan is
 /// not one that is looked for.
+#[inline(always)]
 fn close_child<S: Seek, L: Limit>(
     problem: &Problem,
     place: &mut Bounded,
     path: &[u8],
+    mover: Mover,
     row: u8,
     floor: u32,
     seek: &mut S,
@@ -182,6 +189,7 @@ fn close_child<S: Seek, L: Limit>(
     requires is_problem { IsProblem problem.now }
     requires ready { S.ready problem.now seek.old }
     requires path { IsAt problem.now path.now (child place.old.place row) }
+    requires mover { IsMover mover place.old.place }
     requires row { Contains (targets place.old.place) row }
     ensures closes { Closes (S.meets problem.now) (S.ends problem.now) seek.old (dealt (L.view limit.old) (L.puts limit.old)) seek.new (dealt (L.view limit.new) (L.puts limit.new))
         0 floor path.now (child place.old.place row) (S.text seek.new) result }
@@ -189,12 +197,12 @@ fn close_child<S: Seek, L: Limit>(
     ensures down { IfOk result (λ found. IfNone found (place.new ≡ record { place = child place.old.place row; trail = place.old.place ∷ place.old.trail })) }
     ensures same { (L.problem limit.new ≡ L.problem limit.old) × (L.budget limit.new ≡ L.budget limit.old) }
 {
-    let below = path.len() as u32 + place.blocking_after(row);
+    let below = path.len() as u32 + place.blocking_after(mover, row);
     let bar = seek.enough(limit);
     if u64::from(below) >= bar {
         return Ok(Some(cut(Kind::CutB, below, floor)));
     }
-    let _pushed = place.push(row);
+    place.push_legal(mover, row);
     let found = close_below(problem, place, path, below, bar, floor, seek, limit)?;
     if found.is_some() {
         let _popped = place.pop();
@@ -204,10 +212,12 @@ fn close_child<S: Seek, L: Limit>(
 
 /// Gives away or closes the child at a legal row, whose path this is: gives it away where its path has at most `split` rows and its
 /// name is accepted.
+#[inline(always)]
 fn walk_child<S: Seek, L: Limit>(
     problem: &Problem,
     place: &mut Bounded,
     path: &[u8],
+    mover: Mover,
     row: u8,
     floor: u32,
     seek: &mut S,
@@ -218,6 +228,7 @@ fn walk_child<S: Seek, L: Limit>(
     requires is_problem { IsProblem problem.now }
     requires ready { S.ready problem.now seek.old }
     requires path { IsAt problem.now path.now (child place.old.place row) }
+    requires mover { IsMover mover place.old.place }
     requires row { Contains (targets place.old.place) row }
     requires split { split ≤ 8 }
     ensures closes { Closes (S.meets problem.now) (S.ends problem.now) seek.old (dealt (L.view limit.old) (L.puts limit.old)) seek.new (dealt (L.view limit.new) (L.puts limit.new))
@@ -232,7 +243,7 @@ fn walk_child<S: Seek, L: Limit>(
             floor,
         }));
     }
-    close_child(problem, place, path, row, floor, seek, limit)
+    close_child(problem, place, path, mover, row, floor, seek, limit)
 }
 
 /// Makes room for one more, where there is none.
@@ -283,7 +294,7 @@ fn walk_from<S: Seek, L: Limit>(
         });
     }
     let mut above = Vec::new(alloc);
-    let mut frame = Frame::at(place.position());
+    let mut frame = Frame::at(place);
     list.push_reserved(frame.kind());
     loop {
         let Some(row) = frame.turn() else {
@@ -305,6 +316,7 @@ fn walk_from<S: Seek, L: Limit>(
             problem,
             place,
             path.as_slice(),
+            frame.mover,
             row,
             floor,
             seek,
@@ -312,7 +324,7 @@ fn walk_from<S: Seek, L: Limit>(
             split,
         )?;
         let Some(closed) = found else {
-            let below = Frame::at(place.position());
+            let below = Frame::at(place);
             list.push_reserved(below.kind());
             above.push_reserved(mem::replace(&mut frame, below));
             continue;

@@ -1,12 +1,10 @@
 -- A tree as its symbols in a row, a branch before its trees; and the tree that symbols are those of.
-use Rattle.std.specs.Prelude.{◌≡◌, ℕ, Bool, true, false, List, [], ◌∷◌, ◌++◌, length, take, drop}
+use Rattle.std.specs.Prelude.{◌≡◌, ℕ, List, [], ◌∷◌, ◌++◌, length, take, drop}
 use Rattle.std.proofs.Common.{refl, ap, sym, ◌∙◌, append_assoc, append-nil}
 use Rattle.std.proofs.Math.Seq.{take-append_seam, drop-append_seam}
 use Rattle.std.specs.Coded.{Coded, code_by, coded_list}
 use Rattle.crp_row.specs.Symbol.{Symbol}
 use Rattle.crp_row.specs.Symbol as symbol
-use Rattle.crp_row.specs.declared.kind.Kind.{Kind}
-use Rattle.crp_row.specs.declared.kind.Kind.TheVariants as kind
 use Rattle.crp_row.specs.Rows.{symbol_code}
 use Rattle.crp_tree.specs.Tree.{Tree, CutB, CutL, CutR, Branch, Given, Trees, no_trees, one_and, items, row}
 
@@ -23,14 +21,6 @@ abbrev mutual
   pub symbols_of_each : Trees → List Symbol
   symbols_of_each no_trees = []
   symbols_of_each (one_and tree trees) = symbols tree ++ symbols_of_each trees
-
--- what the symbol of a subtree that is given away is
-abbrev pub gives_away : Kind → Bool
-gives_away kind.CutB = false
-gives_away kind.CutL = false
-gives_away (kind.CutR bound) = false
-gives_away (kind.Branch n) = false
-gives_away kind.Given = true
 
 -- the trees whose symbols these are, one after the other
 abbrev pub trees_of : List Symbol → List Tree

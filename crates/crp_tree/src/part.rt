@@ -1,4 +1,3 @@
-ghost use Rattle.std.specs.List.{list_any};
 ghost use Rattle.std.specs.Prelude.{◌≡◌, List, ◌++◌, All, AllPairs, IfOk, OnOk};
 ghost use Rattle.crp_plan.specs.Bay.{IsProblem, cap};
 ghost use Rattle.crp_row.specs.Symbol.{Symbol};
@@ -6,7 +5,7 @@ ghost use Rattle.crp_bay.specs.Positions.{targets};
 ghost use Rattle.crp_tree.specs.Names.{Precedes};
 ghost use Rattle.crp_tree.specs.Trees.{nodes, Fits, IsInPlace, given_names, least_value};
 ghost use Rattle.crp_tree.specs.Listed.{AreFit, nodes_below};
-ghost use Rattle.crp_tree.specs.Symbols.{tree_of, some_trees, gives_away, ComesFirst, ComeFirst};
+ghost use Rattle.crp_tree.specs.Symbols.{tree_of, some_trees, ComesFirst, ComeFirst};
 ghost use Rattle.crp_tree.specs.Claims.{IsPart, nodes_in};
 ghost use Rattle.crp_tree.specs.Parts.{given_of, IsKeptPart};
 
@@ -100,26 +99,16 @@ impl Part {
         ensures rising { IfOk result (λ names. AllPairs Precedes names) }
     {
         let mut names = Vec::new(alloc);
+        if !self.tree.gives() {
+            return Ok(Names::from_vec(names));
+        }
         let Some(place) = self.name.position(&self.problem) else {
             unreachable!()
         };
         let mut list = self.tree.symbols();
-        if !gives(list.kinds()) {
-            return Ok(Names::from_vec(names));
-        }
         collect(&mut list, &self.name, &place, &mut names)?;
         Ok(Names::from_vec(names))
     }
-}
-
-/// Whether one of the symbols gives a subtree away.
-fn gives(kinds: &[Kind]) -> bool
-    ensures { result ≡ list_any gives_away kinds.now }
-{
-    kinds.iter().any(|kind| match kind {
-        Kind::CutB | Kind::CutL | Kind::CutR(_) | Kind::Branch(_) => false,
-        Kind::Given => true,
-    })
 }
 
 /// Adds the names that the tree whose symbols come first gives at a path, and passes it. None has more than 8 rows.

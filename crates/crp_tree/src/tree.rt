@@ -1,5 +1,7 @@
-ghost use Rattle.std.specs.Prelude.{◌≡◌, List};
+ghost use Rattle.std.specs.Prelude.{◌≡◌, List, map};
+ghost use Rattle.std.specs.List.{list_any};
 ghost use Rattle.crp_row.specs.Symbol.{Symbol};
+ghost use Rattle.crp_row.specs.Rows.{kind_of, gives_away};
 ghost use Rattle.crp_tree.specs.Symbols.{symbols, ComeFirst};
 ghost use Rattle.crp_tree.specs.Tree.{Tree as Shape};
 
@@ -33,6 +35,13 @@ impl Tree {
         ensures { row.symbols ≡ symbols result }
     {
         Tree { row }
+    }
+
+    /// Whether one of its symbols gives a subtree away. It looks at none.
+    pub fn gives(&self) -> bool
+        ensures { result ≡ list_any gives_away (map kind_of (symbols self.now)) }
+    {
+        self.row.gives()
     }
 
     /// Its symbols: a branch before its trees, and these by rising rows.

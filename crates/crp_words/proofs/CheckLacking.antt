@@ -1,5 +1,5 @@
 -- From what the rows of `check` lack to why no job comes of them.
-use Rattle.std.proofs.Common.{◌≡◌, ℕ, List, refl, sym, subst, inl, inr, arith, codes}
+use Rattle.std.proofs.Common.{ℕ, List, refl, inl, inr, arith, codes}
 use Rattle.clap.specs.Words.{Row, Text}
 use Rattle.crp_words.specs.Words.{AreWorkersBeyond, Asks, HasText, HasWorkers, IsFault, IsJust, Lacks, NoFault}
 use Rattle.crp_jobs.specs.declared.job.Job.{Job}

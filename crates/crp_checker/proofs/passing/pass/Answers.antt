@@ -22,6 +22,11 @@ returns-then-turn-ordered-clause-passed c =
     let none = none_left place c.args.row (subst (λ (s : PlaceAndTrail). s.place.ordered < s.place.next) c.position-position.ensures passed_all) in
     subst (λ left. ArePassed c.args.least place (rows_behind c.args.row place) left bytes bytes) none (none_passed c.args.least place (rows_behind c.args.row place) bytes)
 
+pub is_right-requires-clause-mover : goal.is_right-requires-clause-mover
+is_right-requires-clause-mover c =
+    let left : c.position-position.result.now.place.next ≤ c.position-position.result.now.place.ordered = omega (arith, c.if-turn-ordered.false, c.next-turn.ensures.value, c.ordered.ensures.value) in
+    c.mover-mover.ensures (subst (λ (s : PlaceAndTrail). s.place.next ≤ s.place.ordered) c.position-position.ensures left)
+
 pub returns-then-not-is_right-clause-passed : goal.returns-then-not-is_right-clause-passed
 returns-then-not-is_right-clause-passed c =
     let place = c.args.place.now.place in

@@ -1,5 +1,4 @@
-use Rattle.std.proofs.Common.{◌≡◌, ◌++◌, ◌-◌, List, ℕ, [], Some, arith, refl, sym, take, drop, length-take, length-drop, length-append}
-use Rattle.std.proofs.lemmas.List.{append-nil}
+use Rattle.std.proofs.Common.{◌-◌, List, ℕ, [], Some, arith, refl, take, drop, length-take, length-drop}
 use Rattle.crp_commands.specs.Checks.{HasChecked}
 use Rattle.crp_commands.proofs.apart.found_in.Goals as goal
 

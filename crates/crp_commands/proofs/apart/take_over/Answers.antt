@@ -1,4 +1,4 @@
-use Rattle.std.proofs.Common.{◌≡◌, rules, arith, sym, subst, IfSome}
+use Rattle.std.proofs.Common.{◌≡◌, rules, arith, subst, IfSome}
 use Rattle.std.specs.Io.KnownBytes.{Appends}
 use Rattle.std.proofs.lemmas.Result.{err_from_is_err_and}
 use Rattle.crp_plan.specs.Devices.{AppendsPart}

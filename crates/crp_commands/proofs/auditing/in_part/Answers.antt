@@ -1,4 +1,4 @@
-use Rattle.std.proofs.Common.{◌≡◌, List, ℕ, None, Some, refl, subst, sym}
+use Rattle.std.proofs.Common.{None, Some, refl, subst, sym}
 use Rattle.std.proofs.lemmas.Result.{IfOk-weaker}
 use Rattle.crp_commands.specs.Partial.{IsReportIn}
 use Rattle.crp_commands.proofs.Noted.{noted_part}

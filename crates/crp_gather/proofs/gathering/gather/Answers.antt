@@ -12,7 +12,7 @@ use Rattle.crp_gather.proofs.gathering.gather.Goals as goal
 
 pub returns-in_err-accept-clause-refused : goal.returns-in_err-accept-clause-refused
 returns-in_err-accept-clause-refused c =
-    let p = err_from_is_err_and c.from_residual.result c.from_residual.ensures.1 in
+    let p = err_from_is_err_and c.from_residual-in_err-accept.result c.from_residual-in_err-accept.ensures.1 in
     let ys = c.put_in_order.new.parts.items in
     let xs = c.args.parts.items in
     let fault = c.in_err-accept.field-0.0 in
@@ -31,7 +31,7 @@ of_parts-requires-clause-rising c =
     let ys = c.put_in_order.new.parts.items in
     let whole = subst (AreWhole c.args.problem.now) c.deref.ensures.value c.in_ok-accept.ensures.whole in
     subst (λ (l : List ProblemPart). AllPairs Precedes (names_of l)) (sym c.from_vec.ensures)
-    (rises (names_of ys) c.put_in_order.ensures.sorted (whole_once c.args.problem.now ys whole))
+    (rises (names_of ys) c.in_ok-put_in_order.ensures.sorted (whole_once c.args.problem.now ys whole))
 
 pub returns-clause-whole : goal.returns-clause-whole
 returns-clause-whole c =

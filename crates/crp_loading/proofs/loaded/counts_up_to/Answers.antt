@@ -6,7 +6,7 @@ use Rattle.crp_follow.specs.Stated.{moves_of}
 use Rattle.crp_follow.specs.Behind.{Made}
 use Rattle.crp_follow.proofs.FirstMoves.{none_counted, counted_more}
 use Rattle.crp_loading.specs.Loaded.{moves_up_to}
-use Rattle.crp_loading.specs.Views.{ShipOrder}
+use Rattle.crp_loading.specs.Turns.{ShipOrder}
 use Rattle.crp_loading.proofs.loaded.counts_up_to.Goals as goal
 
 pub loop-bay-init : goal.loop-bay-init

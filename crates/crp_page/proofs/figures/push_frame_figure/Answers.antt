@@ -14,5 +14,5 @@ returns c =
     ∙ ap (λ l. l ++ frame_title bay frame) c.new-title.ensures.items in
     let picture : c.deref-2.result.now ≡ frame_picture c.args.on.tiers bay frame =
     c.deref-2.ensures.value ∙ c.in_ok-push_frame.ensures ∙ ap (λ l. l ++ frame_picture c.args.on.tiers bay frame) c.new-picture.ensures.items in
-    let caption : c.deref-3.result.now ≡ frame_caption frame = c.deref-3.ensures.value ∙ c.in_ok-push_frame_caption.ensures ∙ ap (λ l. l ++ frame_caption frame) c.new-caption.ensures.items in
+    let caption : c.deref-3.result.now ≡ frame_caption c.args.ship.now frame = c.deref-3.ensures.value ∙ c.in_ok-push_frame_caption.ensures ∙ ap (λ l. l ++ frame_caption c.args.ship.now frame) c.new-caption.ensures.items in
     as_parts c.push_figure.result c.args.on _ _ _ _ _ _ c.args.text.now.items c.push_figure.new.text.items title picture caption c.push_figure.ensures

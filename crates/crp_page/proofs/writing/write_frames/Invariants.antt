@@ -9,7 +9,7 @@ use Rattle.crp_page.proofs.writing.write_frames.Given as goal
 
 abbrev pub invariant-loop-frame : goal.invariant-loop-frame
 invariant-loop-frame g l = record {
-  so : WritesUpTo (flat_map (frame_figure l.on l.bay) l.fn.frames) (flat_map (frame_figure l.on l.bay) l.rest)
+  so : WritesUpTo (flat_map (frame_figure l.on l.ship l.bay) l.fn.frames) (flat_map (frame_figure l.on l.ship l.bay) l.rest)
       (sink_now (g.W.Sink.contents l.initial.sink) (g.W.Sink.failures l.initial.sink) (g.W.Sink.interrupted l.initial.sink) l.initial.interruptions)
       (sink_now (g.W.Sink.contents l.sink) (g.W.Sink.failures l.sink) (g.W.Sink.interrupted l.sink) l.interruptions);
   passed : l.interruptions ≤ most_interruptions;

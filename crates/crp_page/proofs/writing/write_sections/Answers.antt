@@ -17,12 +17,12 @@ write_section-requires-clause-left g c = of_one LeaveFew c.args.bays.now c.loop-
 pub returns-in_err-write_section-clause-wrote : goal.returns-in_err-write_section-clause-wrote
 returns-in_err-write_section-clause-wrote g c =
     let p = err_from_is_err_and c.from_residual.result c.from_residual.ensures.1 in
-    let (rest, whole) = numbered_split (section c.args.sizes.now) bay_followed c.args.bays.now c.loop-i.i c.index-bays-i.result c.loop-i-test.true c.index-bays-i.is in
+    let (rest, whole) = numbered_split (section c.args.sizes.now c.args.ship.now) bay_followed c.args.bays.now c.loop-i.i c.index-bays-i.result c.loop-i-test.true c.index-bays-i.is in
     rw (p.1, p.2) (stops_within _ _ _ rest _ _ _ _ whole c.loop-i.invariant.wrote c.in_err-write_section.ensures.wrote)
 
 pub loop-i-preserved : goal.loop-i-preserved
 loop-i-preserved g c = record {
-  wrote = writes_more _ _ _ _ _ _ (numbered_more (section c.args.sizes.now) bay_followed c.args.bays.now c.loop-i.i c.index-bays-i.result c.loop-i-test.true c.index-bays-i.is)
+  wrote = writes_more _ _ _ _ _ _ (numbered_more (section c.args.sizes.now c.args.ship.now) bay_followed c.args.bays.now c.loop-i.i c.index-bays-i.result c.loop-i-test.true c.index-bays-i.is)
       c.loop-i.invariant.wrote c.in_ok-write_section.ensures.wrote;
   passed = c.in_ok-write_section.ensures.passed;
 }

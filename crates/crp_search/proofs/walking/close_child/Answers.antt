@@ -7,7 +7,6 @@ use Rattle.crp_bay.proofs.Reaching.{can_from_target}
 use Rattle.crp_bounds.proofs.Leasts.{few_blocked}
 use Rattle.crp_tree.specs.Mark.{B}
 use Rattle.crp_tree.specs.Trees.{Node}
-use Rattle.crp_tree.proofs.Followed.{legal_push}
 use Rattle.crp_search.specs.Limits.{dealt}
 use Rattle.crp_search.proofs.SoFar.{met_cut, none_granted}
 use Rattle.crp_search.proofs.Closing.{held_b, closed_b, closes_from}
@@ -16,8 +15,11 @@ use Rattle.crp_search.proofs.walking.close_child.Goals as goal
 pub overflow_cast-below : goal.overflow_cast-below
 overflow_cast-below g c = let few = short_path c.args.problem.now c.args.path.now (child c.args.place.now.place c.args.row) c.requires.is_problem c.requires.path in omega arith
 
-pub blocking_after-requires : goal.blocking_after-requires
-blocking_after-requires g c = can_from_target c.args.place.now.place c.args.row c.requires.row
+pub blocking_after-requires-clause-legal : goal.blocking_after-requires-clause-legal
+blocking_after-requires-clause-legal g c = can_from_target c.args.place.now.place c.args.row c.requires.row
+
+pub push_legal-requires-clause-legal : goal.push_legal-requires-clause-legal
+push_legal-requires-clause-legal g c = can_from_target c.args.place.now.place c.args.row c.requires.row
 
 pub overflow_add-below : goal.overflow_add-below
 overflow_add-below g c = let few = short_path c.args.problem.now c.args.path.now (child c.args.place.now.place c.args.row) c.requires.is_problem c.requires.path in
@@ -44,23 +46,20 @@ pub returns-in_err-found-clause-closes : goal.returns-in_err-found-clause-closes
 returns-in_err-found-clause-closes g c =
     let p = c.args.problem.now in
     let e = err_from_is_err_and c.from_residual.result c.from_residual.ensures.1 in
-    let placed = legal_push c.args.place.now c.args.row c.push-pushed.new.self c.push-pushed.result (record { target = c.push-pushed.ensures.target; pushed = c.push-pushed.ensures.pushed }) c.requires.row in
-    rw (e.1, e.2) (closes_from 0 _ (rw placed at c.in_err-found.ensures.closes)
+    rw (e.1, e.2) (closes_from 0 _ (rw c.push_legal.ensures at c.in_err-found.ensures.closes)
     (λ rows met later. g.met.S.Seek.onward p rows _ _ _ _ _ _ [] met (c.enough-bar.ensures.met p rows) later)
     (λ rows end later. g.met.S.Seek.ended p rows _ _ _ _ _ _ [] [] end (c.enough-bar.ensures.met p rows) later))
 
 pub returns-then-is_some-clause-closes : goal.returns-then-is_some-clause-closes
 returns-then-is_some-clause-closes g c =
     let p = c.args.problem.now in
-    let placed = legal_push c.args.place.now c.args.row c.push-pushed.new.self c.push-pushed.result (record { target = c.push-pushed.ensures.target; pushed = c.push-pushed.ensures.pushed }) c.requires.row in
-    closes_from 0 _ (rw placed at c.in_ok-found.ensures.closes)
+    closes_from 0 _ (rw c.push_legal.ensures at c.in_ok-found.ensures.closes)
     (λ rows met later. g.met.S.Seek.onward p rows _ _ _ _ _ _ [] met (c.enough-bar.ensures.met p rows) later)
     (λ rows end later. g.met.S.Seek.ended p rows _ _ _ _ _ _ [] [] end (c.enough-bar.ensures.met p rows) later)
 
 pub returns-else-is_some-clause-closes : goal.returns-else-is_some-clause-closes
 returns-else-is_some-clause-closes g c =
     let p = c.args.problem.now in
-    let placed = legal_push c.args.place.now c.args.row c.push-pushed.new.self c.push-pushed.result (record { target = c.push-pushed.ensures.target; pushed = c.push-pushed.ensures.pushed }) c.requires.row in
-    closes_from 0 _ (rw placed at c.in_ok-found.ensures.closes)
+    closes_from 0 _ (rw c.push_legal.ensures at c.in_ok-found.ensures.closes)
     (λ rows met later. g.met.S.Seek.onward p rows _ _ _ _ _ _ [] met (c.enough-bar.ensures.met p rows) later)
     (λ rows end later. g.met.S.Seek.ended p rows _ _ _ _ _ _ [] [] end (c.enough-bar.ensures.met p rows) later)

@@ -5,7 +5,6 @@ use Rattle.std.proofs.lemmas.Result.{err_from_is_err_and}
 use Rattle.crp_plan.specs.Bay.{IsAt, cap}
 use Rattle.crp_plan.proofs.Steps.{short_path}
 use Rattle.crp_bay.specs.Positions.{targets, child}
-use Rattle.crp_bay.specs.Back.{PlaceAndTrail}
 use Rattle.crp_row.specs.Symbol as symbol
 use Rattle.crp_row.specs.Rows.{symbol_of}
 use Rattle.crp_tree.specs.Symbols.{leaf, leaf_symbols}
@@ -16,7 +15,7 @@ use Rattle.crp_search.specs.Limits.{dealt}
 use Rattle.crp_search.specs.Searched.{AreFirstNodes}
 use Rattle.crp_search.specs.Walked.{met_at, closing, TakesTurn}
 use Rattle.crp_search.proofs.Closing.{floor_branch, floor_more}
-use Rattle.crp_search.proofs.UnderWay.{standing, stands_at, sets_out, legal_turn, turn_leads, still_short, stays, goes_down, goes_up, ends, ends_as, first_nodes, none_yet, leaf_tree, carried, reverse_push, one_less_left}
+use Rattle.crp_search.proofs.UnderWay.{standing, stands_at, sets_out, legal_turn, turn_moves, turn_leads, still_short, stays, goes_down, goes_up, ends, ends_as, first_nodes, none_yet, leaf_tree, carried, reverse_push, one_less_left}
 use Rattle.crp_search.proofs.Owing.{left, owed, owes_less, owes_below, owes_above}
 use Rattle.crp_search.proofs.walking.walk_from.Goals as goal
 
@@ -59,9 +58,9 @@ returns-in_err-push-clause-end g c =
 
 pub loop-row-init : goal.loop-row-init
 loop-row-init g c =
-    let rows : c.at-frame.result.rows.items ≡ targets c.args.place.now.place = c.at-frame.ensures.rows ∙ ap (λ (v : PlaceAndTrail). targets v.place) c.position.ensures in
+    let rows : c.at-frame.result.rows.items ≡ targets c.args.place.now.place = c.at-frame.ensures.rows in
     let list_is : c.push_reserved.new.self.symbols ≡ symbol.Branch (length c.at-frame.result.rows.items) ∷ [] = c.push_reserved.ensures ∙ ap (λ l. l ++ symbol_of c.kind.result [] ∷ []) (c.make_room.ensures.symbols ∙ c.new-list.ensures) ∙ ap (λ k. symbol_of k [] ∷ []) c.kind.ensures in
-    let begun = sets_out c.args.problem.now (standing c.args.path.now.items c.args.place.now) c.at-frame.result c.as_slice.result.now (g.S.Seek.text c.close.new.seek) _ c.requires.path c.as_slice.ensures.value rows c.at-frame.ensures.done refl in
+    let begun = sets_out c.args.problem.now (standing c.args.path.now.items c.args.place.now) c.at-frame.result c.as_slice.result.now (g.S.Seek.text c.close.new.seek) _ c.requires.path c.as_slice.ensures.value rows c.at-frame.ensures.done c.at-frame.ensures.mover refl in
     let closes = rw c.in_default.is at c.in_ok-first.ensures.closes in
     let branched = closes.met c.args.split (omega arith) in
     record {
@@ -143,6 +142,9 @@ walk_child-requires-clause-path g c =
     subst (λ l. IsAt c.args.problem.now l (child c.loop-row.place.place c.in-Some-turn.row)) (sym (c.as_slice-in-loop-row.ensures.value ∙ c.push-in-loop-row.ensures.items))
     (turn_leads c.loop-row.invariant.under_way c.in-Some-turn.ensures.turn c.loop-row.invariant.is_problem)
 
+pub walk_child-requires-clause-mover : goal.walk_child-requires-clause-mover
+walk_child-requires-clause-mover g c = turn_moves c.loop-row.invariant.under_way c.in-Some-turn.ensures.turn
+
 pub walk_child-requires-clause-row : goal.walk_child-requires-clause-row
 walk_child-requires-clause-row g c = legal_turn c.loop-row.invariant.under_way c.in-Some-turn.ensures.turn
 
@@ -169,9 +171,9 @@ loop-row-preserved-in_default-found g c =
     let down = rw c.in_default-found.is at c.in_ok-found.ensures.down in
     let closes = rw c.in_default-found.is at c.in_ok-found.ensures.closes in
     let branched = closes.met c.args.split (omega arith) in
-    let rows : c.at-below.result.rows.items ≡ targets c.walk_child.new.place.place = c.at-below.ensures.rows ∙ ap (λ (v : PlaceAndTrail). targets v.place) c.position-in_default-found.ensures in
+    let rows : c.at-below.result.rows.items ≡ targets c.walk_child.new.place.place = c.at-below.ensures.rows in
     let list_is : c.push_reserved-in_default-found.new.self.symbols ≡ c.loop-row.list.symbols ++ symbol.Branch (length c.at-below.result.rows.items) ∷ [] = c.push_reserved-in_default-found.ensures ∙ ap (λ l. l ++ symbol_of c.kind-in_default-found.result [] ∷ []) c.make_room-in-loop-row.ensures.symbols ∙ ap (λ k. c.loop-row.list.symbols ++ symbol_of k [] ∷ []) c.kind-in_default-found.ensures in
-    let gone = goes_down c.loop-row.invariant.under_way c.in-Some-turn.ensures.turn (standing c.push-in-loop-row.new.self.items c.walk_child.new.place) c.at-below.result path (g.S.Seek.text c.walk_child.new.seek) _ c.loop-row.invariant.is_problem c.as_slice-in-loop-row.ensures.value c.push-in-loop-row.ensures.items down rows c.at-below.ensures.done refl in
+    let gone = goes_down c.loop-row.invariant.under_way c.in-Some-turn.ensures.turn (standing c.push-in-loop-row.new.self.items c.walk_child.new.place) c.at-below.result path (g.S.Seek.text c.walk_child.new.seek) _ c.loop-row.invariant.is_problem c.as_slice-in-loop-row.ensures.value c.push-in-loop-row.ensures.items down rows c.at-below.ensures.done c.at-below.ensures.mover refl in
     record {
       is_problem = c.loop-row.invariant.is_problem;
       same = (c.walk_child.ensures.same.0 ∙ c.loop-row.invariant.same.0, c.walk_child.ensures.same.1 ∙ c.loop-row.invariant.same.1);

@@ -1,4 +1,4 @@
-use Rattle.std.proofs.Common.{◌∙◌, Option, Bool, ap, is_some, sym}
+use Rattle.std.proofs.Common.{◌∙◌, Option, ap, is_some, sym}
 use Rattle.std.proofs.lemmas.Result.{err_from_is_err_and}
 use Rattle.clap.specs.Words.{Text, found_of, rows_of}
 use Rattle.crp_words.proofs.TimeLacking.{no_bay_limit, no_total_limit, still_some}

@@ -1,12 +1,10 @@
-use Rattle.std.proofs.Common.{◌++◌, [], map, All, ap, sym, ◌∙◌, subst, arith}
+use Rattle.std.proofs.Common.{◌++◌, [], All, ap, sym, ◌∙◌, subst, arith}
 use Rattle.std.specs.Prelude.{AllPairs}
 use Rattle.crp_tree.specs.Names.{Precedes}
 use Rattle.crp_tree.specs.Parts.{ProblemPart, given_of}
 use Rattle.crp_tree.specs.Trees.{nodes, given_names, HasShape, Fits, IsInPlace}
-use Rattle.std.specs.List.{list_any}
-use Rattle.crp_tree.specs.Symbols.{tree_of, gives_away}
-use Rattle.crp_row.specs.Rows.{kind_of}
-use Rattle.crp_tree.proofs.Ungiven.{none_in}
+use Rattle.crp_tree.specs.Symbols.{tree_of}
+use Rattle.crp_tree.proofs.Ungiven.{none_of}
 use Rattle.crp_tree.proofs.Nodes.{given_rise}
 use Rattle.crp_tree.proofs.Kept.{shape_at_name, nodes_at_name}
 use Rattle.crp_tree.proofs.Parsed.{alone}
@@ -40,9 +38,7 @@ returns-clause-rising c =
 pub returns-then-not-gives-clause-names : goal.returns-then-not-gives-clause-names
 returns-then-not-gives-clause-names c =
     let x : ProblemPart = record { problem = c.self.inside.problem; name = c.self.inside.name; tree = c.self.inside.tree; floor = c.self.inside.floor } in
-    c.from_vec.ensures ∙ c.new-names.ensures.items
-    ∙ sym (none_in x.name c.in-Some.place.place x.tree (ap (λ l. list_any gives_away (map kind_of l)) (sym c.symbols-list.ensures) ∙ ap (list_any gives_away) (sym c.kinds.ensures) ∙ sym c.gives.ensures ∙ c.if-not-gives.true))
-    ∙ ap given_names (sym (nodes_at_name x c.in-Some.place.place c.self.invariant c.in-Some.ensures.at)) ∙ ap given_of c.self.view_is
+    c.from_vec.ensures ∙ c.new-names.ensures.items ∙ sym (none_of x (sym c.if-not-gives.ensures)) ∙ ap given_of c.self.view_is
 
 pub returns-then-not-gives-clause-rising : goal.returns-then-not-gives-clause-rising
 returns-then-not-gives-clause-rising c =

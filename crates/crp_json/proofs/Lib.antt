@@ -1,0 +1,8 @@
+-- Lemmas on the JSON Lines of a report.
+pub mod Ascii
+pub mod Chained
+pub mod Naming
+pub mod Growing
+pub mod Showing
+pub mod NoEntry
+pub mod OneJson

@@ -1,0 +1,68 @@
+-- A piece that is answered leaves a sink that shows what it was given.
+use Rattle.std.proofs.Common.{◌≡◌, ℕ, ◌+◌, ◌-◌, ◌^◌, zero, suc, min, Bool, false, List, [], ◌∷◌, ◌++◌, take, Option, Some, None, refl, sym, ap, ◌∙◌, subst, arith, append_assoc}
+use Rattle.std.specs.Prelude.{Result, Ok, Err}
+use Rattle.std.specs.List.{AllByRecursion}
+use Rattle.std.specs.Io.KnownBytes.{Appends, WriteAppends}
+use Rattle.std.proofs.Math.Logic.{∥∥₁_map}
+use Rattle.std.proofs.lemmas.List.{take_all}
+use Rattle.std.proofs.lemmas.Option.{same_Some, none-some}
+use Rattle.crp_plan.specs.declared.device.Failure.{Failure}
+use Rattle.crp_plan.specs.Devices.{CountsWrite}
+use Rattle.crp_cert.proofs.Joined.{all_both}
+use Rattle.crp_json.specs.declared.entry.Entry.{Entry}
+use Rattle.crp_json.specs.Entries.{entry_text, IsEntry}
+use Rattle.crp_json.specs.Lines.{entry_line, report_of}
+use Rattle.crp_json.specs.Shown.{holds_in, opening, lines_of, IsShown, IsAnswer}
+use Rattle.crp_json.proofs.Growing.{one_more, lines_more}
+
+-- it then holds the piece too
+pub appended : (held holds new_holds : Option (List ℕ)) (first : Option (List ℕ)) (failed : ℕ) (r : Result ℕ Failure) (entries new_entries : List Entry) (piece : List ℕ)
+    → IsAnswer first failed r entries new_entries holds new_holds piece
+    → WriteAppends (holds_in held holds entries first) (holds_in held new_holds new_entries first) r piece
+appended held holds new_holds None failed r entries new_entries piece a = a.1
+appended None holds new_holds (Some line) failed (Ok n) entries new_entries piece a = tt
+appended (Some before) holds new_holds (Some line) failed (Ok n) entries new_entries piece a =
+    let k = a.2 in
+    let all : take n piece ≡ piece = take_all n piece (omega (arith, a.0)) in
+    ap (λ (es : List Entry). before ++ report_of es) k.added ∙ ap (λ l. before ++ l) (one_more entry_text entries k.entry)
+    ∙ sym (append_assoc before (report_of entries) (entry_text k.entry)) ∙ ap (λ l. (before ++ report_of entries) ++ l) (sym k.is ∙ sym all)
+appended None holds new_holds (Some line) failed (Err e) entries new_entries piece a = tt
+appended (Some before) holds new_holds (Some line) failed (Err e) entries new_entries piece a = ap (λ (es : List Entry). before ++ report_of es) a
+
+-- a count that is 0 behind a failure cannot be
+not_none : (failed : ℕ) → 0 ≡ failed + min 1 (2 ^ 64 - 1 - failed) → ⊥
+not_none zero e = omega (arith, e)
+not_none (suc n) e = omega (arith, e)
+
+-- what was written grows by the JSON Line
+grown : (holds new_holds : Option (List ℕ)) (before bytes more : List ℕ) → holds ≡ Some (before ++ bytes) → Appends holds new_holds more → new_holds ≡ Some (before ++ (bytes ++ more))
+grown None new_holds before bytes more e a = absurd (none-some _ e)
+grown (Some xs) None before bytes more e a = absurd a
+grown (Some xs) (Some ys) before bytes more e a = ap Some (a ∙ ap (λ l. l ++ more) (same_Some xs (before ++ bytes) e) ∙ append_assoc before bytes more)
+
+pub shown_on : (held holds new_holds : Option (List ℕ)) (first : Option (List ℕ)) (failed new_failed : ℕ) (untouched : Bool) (r : Result ℕ Failure) (entries new_entries : List Entry) (piece : List ℕ)
+    → IsShown held untouched (record { first = first; entries = entries; holds = holds; failures = failed })
+    → IsAnswer first failed r entries new_entries holds new_holds piece → CountsWrite failed new_failed r piece
+    → IsShown held false (record { first = first; entries = new_entries; holds = new_holds; failures = new_failed })
+shown_on held holds new_holds None failed new_failed untouched r entries new_entries piece s a counted = record {
+  start = λ e. absurd cc;
+  each = subst (λ (es : List Entry). ∥ AllByRecursion IsEntry es ∥₁) (sym a.0) s.each;
+  lines = λ before line is asked none. absurd (none-some line asked);
+}
+shown_on held holds new_holds (Some first) failed new_failed untouched (Ok n) entries new_entries piece s a counted =
+    let k = a.2 in
+    record {
+      start = λ e. absurd cc;
+      each = subst (λ (es : List Entry). ∥ AllByRecursion IsEntry es ∥₁) (sym k.added) (∥∥₁_map s.each (λ all. all_both IsEntry entries (k.entry ∷ []) all (k.is_entry, tt)));
+      lines = λ before line is asked none.
+          (let same = same_Some first line asked in
+          let old = s.lines before first is refl a.1 in
+          grown holds new_holds before (lines_of first entries) (opening first entries ++ entry_line k.entry) old k.line
+          ∙ ap (λ (l : List ℕ). Some (before ++ l)) (sym (lines_more first entries k.entry) ∙ ap (λ (es : List Entry). lines_of first es) (sym k.added)
+          ∙ ap (λ (f : List ℕ). lines_of f new_entries) same));
+    }
+shown_on held holds new_holds (Some first) failed new_failed untouched (Err e) entries new_entries piece s a counted = record {
+  start = λ e. absurd cc;
+  each = subst (λ (es : List Entry). ∥ AllByRecursion IsEntry es ∥₁) (sym a) s.each;
+  lines = λ before line is asked none. absurd (not_none failed (sym none ∙ counted));
+}

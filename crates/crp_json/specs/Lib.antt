@@ -1,0 +1,5 @@
+pub mod Entries
+pub mod Objects
+pub mod Lines
+pub mod Adding
+pub mod Shown

@@ -1,0 +1,23 @@
+-- The JSON Lines of a report: the object of each of its entries, on a line of its own.
+use Rattle.std.specs.Prelude.{◌≡◌, ℕ, List, flat_map}
+use Rattle.std.specs.List.{AllByRecursion}
+use Rattle.json.specs.Print.{print}
+use Rattle.crp_said.specs.Spelled.{ended}
+use Rattle.crp_json.specs.declared.entry.Entry.{Entry}
+use Rattle.crp_json.specs.Entries.{entry_text, IsEntry}
+use Rattle.crp_json.specs.Objects.{entry_object}
+
+-- the line of an entry
+abbrev pub entry_line : Entry → List ℕ
+entry_line e = ended (print (entry_object e))
+
+-- what these entries are as lines of a report, and as JSON Lines
+abbrev pub report_of : List Entry → List ℕ
+report_of entries = flat_map entry_text entries
+
+abbrev pub json_of : List Entry → List ℕ
+json_of entries = flat_map entry_line entries
+
+-- the lines are the JSON Lines of a report, or of a front of one that ends behind an entry
+abbrev pub AreJsonLines : List ℕ → List ℕ → Type 0
+AreJsonLines report lines = (entries : List Entry) × AllByRecursion IsEntry entries × (report ≡ report_of entries) × (lines ≡ json_of entries)

@@ -1,0 +1,301 @@
+//! Writing the object of an entry.
+ghost use Rattle.std.specs.Prelude.{◌≡◌, codes, flat_map, IfOk};
+ghost use Rattle.json.specs.Print.{print};
+ghost use Rattle.crp_said.specs.Said.{cause_words, count_said};
+ghost use Rattle.crp_said.specs.Spelled.{ended};
+ghost use Rattle.crp_json.specs.Adding.{Adds};
+ghost use Rattle.crp_json.specs.Objects.{member, array, text_token, number_token, number_or_null, verdict_words, lower_said, is_first, cause_tokens, said_members, bay_tokens, place_tokens, container_member, move_members, move_tokens, numbers_object, bay_object, last_object, entry_object, head_object};
+ghost use Rattle.crp_json.specs.Lines.{entry_line};
+
+use crate::entry::{BayEntry, Entry};
+use crp_plan::BayName;
+use crp_said::{Numbers, Place, Said, SaidCause, SaidMove};
+use json::Writer;
+use std::alloc::{AllocError, Global};
+
+// Adds a member that is a number.
+fn push_number(out: &mut Writer, name: &str, n: u64) -> Result<(), AllocError>
+    ensures { Adds result out.old out.new (member name.now (number_token n)) }
+{
+    out.key(name)?;
+    out.u64(n)
+}
+
+// Adds a member that is a text.
+fn push_text(out: &mut Writer, name: &str, text: &str) -> Result<(), AllocError>
+    ensures { Adds result out.old out.new (member name.now (text_token text.now)) }
+{
+    out.key(name)?;
+    out.string(text)
+}
+
+// Adds a member that is a number or null.
+fn push_option(out: &mut Writer, name: &str, n: Option<u32>) -> Result<(), AllocError>
+    ensures { Adds result out.old out.new (member name.now (number_or_null n)) }
+{
+    match n {
+        Some(n) => push_number(out, name, n as u64),
+        None => {
+            out.key(name)?;
+            out.null()
+        }
+    }
+}
+
+// Adds the name of a bay.
+fn push_bay(out: &mut Writer, bay: &BayName) -> Result<(), AllocError>
+    ensures { Adds result out.old out.new (member (codes "bay") (bay_tokens bay.now)) }
+{
+    out.key("bay")?;
+    out.begin_object()?;
+    let Ok(block) = str::from_utf8(bay.block()) else {
+        unreachable!()
+    };
+    push_text(out, "block", block)?;
+    push_number(out, "bay", bay.bay() as u64)?;
+    out.end_object()
+}
+
+// What is known of the fewest relocations.
+fn verdict_of(said: Said) -> &'static str
+    ensures { result.now ≡ verdict_words said }
+{
+    match said {
+        Said::Optimal(_) | Said::First(_) => "optimal",
+        Said::NoPlan => "no plan",
+        Said::Between { .. } => "between",
+    }
+}
+
+// The relocations that each plan has at least.
+fn lower_of(said: Said) -> Option<u32>
+    ensures { result ≡ lower_said said }
+{
+    match said {
+        Said::Optimal(count) | Said::First(count) => Some(count),
+        Said::NoPlan => None,
+        Said::Between { lower, .. } => Some(lower),
+    }
+}
+
+// Whether the printed plan is the first of the best.
+fn is_first(said: Said) -> bool
+    ensures { result ≡ is_first said }
+{
+    matches!(said, Said::First(_))
+}
+
+// Why a bay is left open.
+fn cause_of(cause: SaidCause) -> &'static str
+    ensures { result.now ≡ cause_words cause }
+{
+    match cause {
+        SaidCause::Budget => "budget",
+        SaidCause::Memory => "memory",
+        SaidCause::Time => "time",
+        SaidCause::Edited => "edited",
+    }
+}
+
+// Adds why a bay is left open, if it is.
+fn push_cause(out: &mut Writer, said: Said) -> Result<(), AllocError>
+    ensures { Adds result out.old out.new (member (codes "cause") (cause_tokens said)) }
+{
+    out.key("cause")?;
+    match said {
+        Said::Between { cause, .. } => out.string(cause_of(cause)),
+        _ => out.null(),
+    }
+}
+
+// Adds a place.
+fn push_place(out: &mut Writer, name: &str, place: Place) -> Result<(), AllocError>
+    ensures { Adds result out.old out.new (member name.now (place_tokens place)) }
+{
+    out.key(name)?;
+    out.begin_object()?;
+    push_number(out, "row", place.row as u64)?;
+    push_number(out, "tier", place.tier as u64)?;
+    out.end_object()
+}
+
+// Adds the name of a container.
+fn push_container(alloc: Global, out: &mut Writer, name: &[u8]) -> Result<(), AllocError>
+    ensures { Adds result out.old out.new (container_member name.now) }
+{
+    match str::from_utf8(name) {
+        Ok(text) => push_text(out, "container", text),
+        Err(_) => {
+            let digits = hex::encode(alloc, name)?;
+            push_text(out, "container_hex", digits.as_str())
+        }
+    }
+}
+
+// Adds what a move does, and where and to which container.
+fn push_members(alloc: Global, out: &mut Writer, step: &SaidMove) -> Result<(), AllocError>
+    ensures { Adds result out.old out.new (move_members step.now) }
+{
+    match step {
+        SaidMove::Shift {
+            from,
+            to,
+            container,
+        } => {
+            push_text(out, "move", "shift")?;
+            push_place(out, "from", *from)?;
+            push_place(out, "to", *to)?;
+            push_container(alloc, out, container.bytes())
+        }
+        SaidMove::Take { from, container } => {
+            push_text(out, "move", "take")?;
+            push_place(out, "from", *from)?;
+            push_container(alloc, out, container.bytes())
+        }
+    }
+}
+
+// Adds a move.
+fn push_move(alloc: Global, out: &mut Writer, step: &SaidMove) -> Result<(), AllocError>
+    ensures { Adds result out.old out.new (move_tokens step.now) }
+{
+    out.begin_object()?;
+    push_members(alloc, out, step)?;
+    out.end_object()
+}
+
+// Adds moves.
+fn push_items(alloc: Global, out: &mut Writer, moves: &[SaidMove]) -> Result<(), AllocError>
+    ensures { Adds result out.old out.new (flat_map move_tokens moves.now) }
+{
+    for step in moves {
+        push_move(alloc, out, step)?;
+    }
+    Ok(())
+}
+
+// Adds the moves of a bay.
+fn push_moves(alloc: Global, out: &mut Writer, moves: &[SaidMove]) -> Result<(), AllocError>
+    ensures { Adds result out.old out.new (member (codes "moves") (array (flat_map move_tokens moves.now))) }
+{
+    out.key("moves")?;
+    out.begin_array()?;
+    push_items(alloc, out, moves)?;
+    out.end_array()
+}
+
+// Adds the object of a first line.
+fn push_numbers(out: &mut Writer, numbers: &Numbers) -> Result<(), AllocError>
+    ensures { Adds result out.old out.new (numbers_object numbers.now) }
+{
+    out.begin_object()?;
+    push_number(out, "orders", numbers.orders)?;
+    push_number(out, "open", numbers.vacant)?;
+    push_number(out, "absent", numbers.absent)?;
+    out.end_object()
+}
+
+// Adds what is said of a bay.
+fn push_said(out: &mut Writer, said: Said) -> Result<(), AllocError>
+    ensures { Adds result out.old out.new (said_members said) }
+{
+    push_text(out, "verdict", verdict_of(said))?;
+    push_option(out, "lower", lower_of(said))?;
+    push_option(out, "upper", said.count())?;
+    out.key("first")?;
+    out.boolean(is_first(said))?;
+    push_cause(out, said)
+}
+
+// Adds the object of a bay.
+fn push_bay_object(alloc: Global, out: &mut Writer, bay: &BayEntry) -> Result<(), AllocError>
+    ensures { Adds result out.old out.new (bay_object bay.now.bay bay.now.said bay.now.moves.items) }
+{
+    out.begin_object()?;
+    push_bay(out, &bay.bay)?;
+    push_said(out, bay.said)?;
+    push_moves(alloc, out, &bay.moves)?;
+    out.end_object()
+}
+
+// Adds the object of a last line.
+fn push_last(out: &mut Writer, bays: u32, decided: u32) -> Result<(), AllocError>
+    ensures { Adds result out.old out.new (last_object bays decided) }
+{
+    out.begin_object()?;
+    push_number(out, "bays", bays as u64)?;
+    push_number(out, "decided", decided as u64)?;
+    out.end_object()
+}
+
+// Adds the object of an entry.
+fn push_entry(alloc: Global, out: &mut Writer, entry: &Entry) -> Result<(), AllocError>
+    ensures { Adds result out.old out.new (entry_object entry.now) }
+{
+    match entry {
+        Entry::First(numbers) => push_numbers(out, numbers),
+        Entry::Bay(bay) => push_bay_object(alloc, out, bay),
+        Entry::Last { bays, decided } => push_last(out, *bays, *decided),
+    }
+}
+
+// Adds a text.
+fn push_one(out: &mut Writer, text: &&str) -> Result<(), AllocError>
+    ensures { Adds result out.old out.new (text_token text.now.now) }
+{
+    out.string(text)
+}
+
+// Adds texts.
+fn push_texts(out: &mut Writer, texts: &[&str]) -> Result<(), AllocError>
+    ensures { Adds result out.old out.new (flat_map (λ text. text_token text.now) texts.now) }
+{
+    for text in texts {
+        push_one(out, text)?;
+    }
+    Ok(())
+}
+
+// Adds the words by which a report was asked for.
+fn push_words(out: &mut Writer, words: &[&str]) -> Result<(), AllocError>
+    ensures { Adds result out.old out.new (member (codes "words") (array (flat_map (λ word. text_token word.now) words.now))) }
+{
+    out.key("words")?;
+    out.begin_array()?;
+    push_texts(out, words)?;
+    out.end_array()
+}
+
+// Adds the object of the first line.
+fn push_head(out: &mut Writer, version: &str, words: &[&str]) -> Result<(), AllocError>
+    ensures { Adds result out.old out.new (head_object version.now (flat_map (λ word. text_token word.now) words.now)) }
+{
+    out.begin_object()?;
+    push_number(out, "format", 1)?;
+    push_text(out, "program", "crp")?;
+    push_text(out, "version", version)?;
+    push_words(out, words)?;
+    out.end_object()
+}
+
+/// The first line, of this version of the program and these words, by which it was asked for the report.
+pub fn head_line(alloc: Global, version: &str, words: &[&str]) -> Result<Vec<u8>, AllocError>
+    ensures { IfOk result (λ line. line.items ≡ ended (print (head_object version.now (flat_map (λ word. text_token word.now) words.now)))) }
+{
+    let mut out = Writer::new(Vec::new(alloc));
+    push_head(&mut out, version, words)?;
+    let mut line = out.into_inner();
+    line.push(b'\n')?;
+    Ok(line)
+}
+
+/// The line of an entry.
+pub fn line_of(alloc: Global, entry: &Entry) -> Result<Vec<u8>, AllocError>
+    ensures { IfOk result (λ line. line.items ≡ entry_line entry.now) }
+{
+    let mut out = Writer::new(Vec::new(alloc));
+    push_entry(alloc, &mut out, entry)?;
+    let mut line = out.into_inner();
+    line.push(b'\n')?;
+    Ok(line)
+}

@@ -1,0 +1,5 @@
+pub mod Records
+pub mod Pieces
+pub mod Marks
+pub mod Listed
+pub mod Worked
