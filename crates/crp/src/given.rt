@@ -1,6 +1,7 @@
 //! The words that the program is given.
 
-use crp_words::{Mistake, Usage};
+use crate::program::texts_of;
+use crp_words::{Mistake, Usage, json_head};
 use std::alloc::Global;
 use std::{env, io};
 
@@ -24,7 +25,28 @@ fn usage_without_words(alloc: Global, error: &io::Error) -> Usage {
     }
 }
 
-/// The words after the program's name, or why they were not had.
-pub fn words_of(rt: &HostRuntime) -> Result<Vec<String>, Usage> {
+// The first line of JSON Lines, where the words ask for these.
+fn head_of(alloc: Global, words: &[String]) -> Result<Option<Vec<u8>>, Usage> {
+    match texts_of(alloc, words) {
+        Ok(texts) => json_head(alloc, &texts),
+        Err(_) => Err(Usage::Memory),
+    }
+}
+
+// The words after the program's name, or why they were not had.
+fn words_of(rt: &HostRuntime) -> Result<Vec<String>, Usage> {
     words_after_name(rt).map_err(|error| usage_without_words(rt.alloc(), &error))
+}
+
+/// The words after the program's name, with the first line of JSON Lines, where they ask for these; or why they were not had, or ask for
+/// nothing.
+pub fn words_and_head(rt: &HostRuntime) -> (Result<Vec<String>, Usage>, Option<Vec<u8>>) {
+    let words = match words_of(rt) {
+        Ok(words) => words,
+        Err(usage) => return (Err(usage), None),
+    };
+    match head_of(rt.alloc(), &words) {
+        Ok(head) => (Ok(words), head),
+        Err(usage) => (Err(usage), None),
+    }
 }

@@ -8,13 +8,15 @@ mod program;
 mod terminal;
 
 use crate::cleared::Cleared;
-use crate::given::words_of;
+use crate::given::words_and_head;
 use crate::piped::Piped;
 use crate::terminal::ErrorTerminal;
 use crp_commands::{Metered, Streams};
 use crp_files::SystemFiles;
+use crp_json::JsonLines;
 use crp_plan::Counted;
 use std::io::IsTerminal;
+use std::marker::Brand;
 use std::process::ExitCode;
 
 // The streams of the program.
@@ -32,14 +34,15 @@ fn main(rt: HostRuntime) -> ExitCode {
         writer: rt.stdout(),
         terminal: rt.stdout().is_terminal().then_some(&terminal),
     };
-    let out = Counted::new(Piped::new(cleared));
+    let (words, head) = words_and_head(&rt);
+    let out = JsonLines::<_, Brand>::new(rt.alloc(), Counted::new(Piped::new(cleared)), head);
     let mut streams = streams_of(input, out, Counted::new(rt.stderr()));
     let status = program::run(
         &rt,
         rt.alloc(),
         &mut SystemFiles::new(&rt),
         &mut streams,
-        &words_of(&rt),
+        &words,
         rt.stdin().is_terminal(),
         &terminal,
     );

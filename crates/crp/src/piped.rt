@@ -1,5 +1,6 @@
 //! A writer that knows whether its reader has ended.
-use crp_plan::Counted;
+use crp_json::{Begun, JsonLines};
+use crp_plan::{Counted, Sink};
 use std::io::{self, ErrorKind, Write};
 
 /// Where somebody reads what is written, who may end before all is.
@@ -28,6 +29,12 @@ impl<W: Write> Piped<W> {
 impl<W: Write> ReadBy for Counted<Piped<W>> {
     fn has_no_reader(&self) -> bool {
         self.device.is_broken
+    }
+}
+
+impl<S: Sink + ReadBy, B: Begun> ReadBy for JsonLines<S, B> {
+    fn has_no_reader(&self) -> bool {
+        self.out().has_no_reader()
     }
 }
 

@@ -25,8 +25,8 @@ const AWAITED: &[u8] =
 const READER_ENDED: &[u8] =
     b"the program that reads the standard output has ended: nothing is wrong with a disk\n";
 
-// The texts behind the words.
-fn texts_of<'a>(alloc: Global, words: &'a [String]) -> Result<Vec<&'a str>, AllocError>
+/// The texts behind the words.
+pub(crate) fn texts_of<'a>(alloc: Global, words: &'a [String]) -> Result<Vec<&'a str>, AllocError>
     ensures { IfOk result (λ texts. map (λ text. text.now) texts.items ≡ map string_bytes words.entry.now) }
 {
     let mut texts = Vec::new(alloc);

@@ -51,16 +51,15 @@ head_joined bay p claim plan version old titled named sized high parsed claimed'
     joined o t b s h r c p = simp append_assoc
 
 -- the head, the lines of the parts and the last line make the text of a certificate
-pub text_joined : (bay : YardBay) (p : Problem) (cert : Certificate) (claim : Claim) (plan : Option ProblemPath) (version : Version) (looked parts again : List ProblemPart) (none head lines text : List ℕ) →
-    version ≡ version_under p claim (map part_of looked) → looked ≡ cert.parts → parts ≡ cert.parts → again ≡ cert.parts → none ≡ [] → head ≡ none ++ head_text (head_for version bay p claim plan) →
-    lines ≡ head ++ flat_map (λ part. part_line (part_of part)) parts → text ≡ lines ++ end_line (length again) → text ≡ text_under bay p cert claim plan
-text_joined bay p cert claim plan version looked parts again none head lines text ev el ep ea en eh es et =
-    let same : version ≡ version_under p claim (map part_of cert.parts) = ev ∙ ap (λ l. version_under p claim (map part_of l)) el in
+pub text_joined : (bay : YardBay) (p : Problem) (cert : Certificate) (claim : Claim) (plan : Option ProblemPath) (parts : List ProblemPart) (none head lines text : List ℕ) → parts ≡ cert.parts → none ≡ [] →
+    head ≡ none ++ head_text (head_for (version_under p claim (map part_of cert.parts)) bay p claim plan) → lines ≡ head ++ flat_map (λ part. part_line (part_of part)) parts → text ≡ lines ++ end_line (length cert.parts) →
+    text ≡ text_under bay p cert claim plan
+text_joined bay p cert claim plan parts none head lines text ep en eh es et =
     let parsed : List Part = map part_of cert.parts in
-    let own : List ℕ = head_text (head_for (version_under p claim (map part_of cert.parts)) bay p claim plan) in
-    let front : head ≡ own = eh ∙ ap (λ (v : Version). none ++ head_text (head_for v bay p claim plan)) same ∙ ap (λ l. l ++ own) en in
+    let own : List ℕ = head_text (head_for (version_under p claim parsed) bay p claim plan) in
+    let front : head ≡ own = eh ∙ ap (λ l. l ++ own) en in
     let middle : flat_map (λ part. part_line (part_of part)) parts ≡ flat_map part_line parsed = ap (flat_map (λ part. part_line (part_of part))) ep ∙ sym (flat_map-map part_line part_of cert.parts) in
-    let end : end_line (length again) ≡ end_line (length parsed) = ap end_line (ap length ea ∙ sym (length-map cert.parts part_of)) in
+    let end : end_line (length cert.parts) ≡ end_line (length parsed) = ap end_line (sym (length-map cert.parts part_of)) in
     et ∙ ap₂ (λ a b. a ++ b) (es ∙ ap₂ (λ a b. a ++ b) front middle) end
     ∙ append_assoc own (flat_map part_line parsed) (end_line (length parsed))
 

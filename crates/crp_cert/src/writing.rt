@@ -8,7 +8,7 @@ ghost use Rattle.crp_tree.specs.Claims.{path_in};
 ghost use Rattle.crp_tree.specs.Parts.{part_of};
 ghost use Rattle.crp_cert.specs.Text.{numbers_line, title_line, bay_line, size_line, stated_heights, size_of, row_line, claim_line, plan_line, head_text};
 ghost use Rattle.crp_tree.specs.Names.{name_text};
-ghost use Rattle.crp_cert.specs.Script.{symbols_of, has_reasons, part_line};
+ghost use Rattle.crp_cert.specs.Script.{symbols_of, has_reasons, part_line, end_line};
 ghost use Rattle.crp_tree.specs.Spots.{symbol_text};
 ghost use Rattle.crp_row.specs.Reasons.{reasons_text};
 ghost use Rattle.crp_row.specs.Rows.{symbol_of, has_text};
@@ -219,17 +219,19 @@ fn push_name(text: &mut Vec<u8>, name: &Name) -> Result<(), AllocError>
     Ok(())
 }
 
-/// Adds the head of a certificate in a version, down to its plan.
-fn push_head(
+/// Adds the head of a certificate of a problem under a claim, down to its plan, a plan or none. Where no memory is left, a part of it may
+/// be added.
+pub fn push_head(
     text: &mut Vec<u8>,
-    version: Version,
     bay: &BayName,
     problem: &Problem,
+    cert: &Cert,
     claim: Claim,
     plan: Option<&Plan>,
 ) -> Result<(), AllocError>
-    ensures { OnOk result (text.new.items ≡ text.old.items ++ head_text (head_for version bay.now problem.now claim (option_copied plan.entry))) }
+    ensures { OnOk result (text.new.items ≡ text.old.items ++ head_text (head_for (version_under problem.now claim (map part_of cert.now.parts)) bay.now problem.now claim (option_copied plan.entry))) }
 {
+    let version = version_under(problem, claim, cert.parts());
     push_title(text, version)?;
     push_bay(text, bay)?;
     push_size(text, problem)?;
@@ -316,14 +318,21 @@ fn push_part(text: &mut Vec<u8>, part: &Part) -> Result<(), AllocError>
     Ok(())
 }
 
-/// Adds the lines of parts.
-fn push_parts(text: &mut Vec<u8>, parts: &[Part]) -> Result<(), AllocError>
+/// Adds the lines of parts. Where no memory is left, some of them may be added.
+pub fn push_parts(text: &mut Vec<u8>, parts: &[Part]) -> Result<(), AllocError>
     ensures { OnOk result (text.new.items ≡ text.old.items ++ flat_map (λ part. part_line (part_of part)) parts.now) }
 {
     for part in parts {
         push_part(text, part)?;
     }
     Ok(())
+}
+
+/// Adds the last line of a certificate, which counts its parts. Where no memory is left, a part of it may be added.
+pub fn push_end(text: &mut Vec<u8>, cert: &Cert) -> Result<(), AllocError>
+    ensures { OnOk result (text.new.items ≡ text.old.items ++ end_line (length cert.now.parts)) }
+{
+    push_number(text, b"end", cert.parts().len())
 }
 
 /// The text of a certificate of a problem under a claim, with a plan or none.
@@ -338,10 +347,9 @@ fn text_under(
     ensures { IfOk result (λ text. text.items ≡ text_under bay.now problem.now cert.now claim (option_copied plan.entry)) }
 {
     let mut text = Vec::new(alloc);
-    let version = version_under(problem, claim, cert.parts());
-    push_head(&mut text, version, bay, problem, claim, plan)?;
+    push_head(&mut text, bay, problem, cert, claim, plan)?;
     push_parts(&mut text, cert.parts())?;
-    push_number(&mut text, b"end", cert.parts().len())?;
+    push_end(&mut text, cert)?;
     Ok(text)
 }
 

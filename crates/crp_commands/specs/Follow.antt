@@ -19,6 +19,7 @@ use Rattle.crp_loading.specs.declared.fault.LoadingFault.TheVariants as loading
 use Rattle.crp_loading.specs.Faults.{faults_of, IsFirst}
 use Rattle.crp_loading.specs.Turns.{ShipOrder}
 use Rattle.crp_loading.specs.Loading.{load_text}
+use Rattle.crp_loading.specs.Summary.{load_summary}
 use Rattle.crp_loading.specs.Loaded.{made_up_to}
 use Rattle.crp_page.specs.Page.{page_text}
 use Rattle.crp_page.specs.declared.ordered.OrderNumbers.{OrderNumbers}
@@ -119,10 +120,11 @@ IsNoReport source f = ⊥
 
 -- ---- what comes of it
 
--- the table of a report that is followed: that of its bays, where this is asked for; else that of its moves, by the turns of the ship, where there is one, and
+-- the table of a report that is followed: that of its bays, where this is asked for, with what no move takes of each where there is a ship; else that of its moves, by the turns of the ship, where there is one, and
 -- else bay by bay
 abbrev pub table_for : Bool → Option Ship → List BayFollowed → List ℕ
-table_for true ship bays = summary_text bays
+table_for true None bays = summary_text bays
+table_for true (Some ship) bays = load_summary ship.1 bays
 table_for false None bays = table_text bays
 table_for false (Some ship) bays = load_text ship.1 ship.0.list bays
 
@@ -143,7 +145,7 @@ numbers_for (Some ship) yard stated = Counted (numbers_of yard ship.0 ship.1)
 -- the order of the ship on the page, where there is one
 abbrev pub order_for : Option Ship → Option ShipOrder
 order_for None = None
-order_for (Some ship) = Some (record { sequence = ship.1; orders = ship.0.list })
+order_for (Some ship) = Some (record { sequence = ship.1; orders = ship.0.list; heading = ship.0.heading })
 
 -- the moves that were made in the yard after: those up to so many containers of the ship, where that is asked for, and else all
 abbrev pub made_for : Option Ship → Option ℕ → List BayFollowed → List Made

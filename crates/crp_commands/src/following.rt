@@ -1,15 +1,12 @@
 //! The command `follow`: from the bytes of a yard list and a report, and of a message where one is asked for, to the table of the moves, and
 //! to their page and the list of the yard behind them where these are asked for.
-ghost use Rattle.std.specs.Prelude.{◌≡◌, ◌≤◌, ◌+◌, ◌-◌, ◌⊎◌, ◌&&◌, [], ℕ, List, Option, map, IfOk, OnOk, IfErr, IsTrue, MatchResult, false, is_some, not};
+ghost use Rattle.std.specs.Prelude.{◌≡◌, ◌≤◌, ◌+◌, ◌-◌, ◌&&◌, [], ℕ, List, Option, map, IfOk, IfErr, IsTrue, MatchResult, false, is_some, not};
 ghost use Rattle.std.specs.Bool.{OnFalse};
-ghost use Rattle.std.specs.List.{AllByRecursion};
 ghost use Rattle.crp_plan.specs.Devices.{most_interruptions};
 ghost use Rattle.crp_yard.specs.Reading.{IsTextOf};
 ghost use Rattle.crp_follow.specs.Behind.{IsListBehind, first_moves};
 ghost use Rattle.crp_follow.specs.Followed.{IsFollowed};
-ghost use Rattle.crp_follow.specs.Table.{StandFew};
 ghost use Rattle.crp_follow.specs.Views.{bay_followed};
-ghost use Rattle.crp_loading.specs.Faults.{IsFirst};
 ghost use Rattle.crp_page.specs.Page.{page_text};
 ghost use Rattle.crp_report.specs.BayTexts.{AreFailuresCounted};
 ghost use Rattle.crp_report.specs.Runs.{SourceSeen, failures_of_fault, sink_seen, source_seen};
@@ -22,11 +19,10 @@ ghost use Rattle.crp_commands.specs.Noted.{IsNotedBy};
 
 use crate::auditing::{InputRead, input_from};
 use crate::partial::report_in;
-use crp_follow::{
-    FollowFault, Followed, MAX_BYTES, list_behind, move_counts, summary_text, table_text,
-};
+use crate::tables::table_for;
+use crp_follow::{FollowFault, Followed, MAX_BYTES, list_behind, move_counts};
 use crp_jobs::{Statement, ToolFault};
-use crp_loading::{LoadingFault, Ship, counts_up_to, load_table};
+use crp_loading::{Ship, counts_up_to};
 use crp_movins::Orders;
 use crp_notes::note_left;
 use crp_order::Sequence;
@@ -157,42 +153,6 @@ pub(crate) fn report_from<R: Source>(
         Err(ReadFault::TooLarge) => Err(ToolFault::Followed(FollowFault::TooLong)),
         Err(ReadFault::Memory) => Err(ToolFault::Memory),
     }
-}
-
-// The table of the moves of a report that is followed: in the order of the ship, where there is one, or else bay by bay.
-fn table_of_moves(
-    alloc: Global,
-    followed: &Followed,
-    ship: &Option<(Orders, Sequence)>,
-) -> Result<Vec<u8>, LoadingFault>
-    requires { AllByRecursion StandFew (map bay_followed followed.now.bays.items) }
-    ensures table { IfOk result (λ text. text.items ≡ table_for false ship.now (map bay_followed followed.now.bays.items)) }
-    ensures faultless { OnOk result (loading_faults ship.now (map bay_followed followed.now.bays.items) ≡ []) }
-    ensures refused { IfErr result (λ fault. (fault ≡ LoadingFault.Memory) ⊎ IsFirst (loading_faults ship.now (map bay_followed followed.now.bays.items)) fault) }
-{
-    match ship {
-        Some((orders, sequence)) => load_table(alloc, followed, orders, sequence),
-        None => Ok(table_text(alloc, followed)?),
-    }
-}
-
-// The table of a report that is followed: that of its bays, where this is asked for, or else that of its moves.
-fn table_for(
-    alloc: Global,
-    followed: &Followed,
-    ship: &Option<(Orders, Sequence)>,
-    summary: bool,
-) -> Result<Vec<u8>, LoadingFault>
-    requires { AllByRecursion StandFew (map bay_followed followed.now.bays.items) }
-    ensures table { IfOk result (λ text. text.items ≡ table_for summary ship.now (map bay_followed followed.now.bays.items)) }
-    ensures faultless { OnOk result (loading_faults ship.now (map bay_followed followed.now.bays.items) ≡ []) }
-    ensures refused { IfErr result (λ fault. (fault ≡ LoadingFault.Memory) ⊎ IsFirst (loading_faults ship.now (map bay_followed followed.now.bays.items)) fault) }
-{
-    let moves = table_of_moves(alloc, followed, ship)?;
-    if summary {
-        return Ok(summary_text(alloc, followed)?);
-    }
-    Ok(moves)
 }
 
 // How many of its moves were made in each bay.

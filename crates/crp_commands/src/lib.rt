@@ -30,6 +30,7 @@ mod proving;
 mod replaying;
 mod rewriting;
 mod streams;
+mod tables;
 
 pub use absences::absent;
 pub use auditing::{AuditSettings, MOST_REPORT, audit};

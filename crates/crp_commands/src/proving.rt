@@ -11,7 +11,7 @@ use crp_incumbent::Board;
 use crp_jobs::ToolFault;
 use crp_notes::{Progress, Terminal};
 use crp_plan::{Sink, Source, write_all};
-use crp_report::{Status, Timer, certificate_of, status_of};
+use crp_report::{Status, Timer, certificate_by, status_of};
 use crp_solve::{Settings, solve};
 use std::alloc::Global;
 use std::sync::Wait;
@@ -50,7 +50,14 @@ pub fn prove<T: Threads + Wait + Sync, S: Terminal + Sync, R: Source, W: Sink>(
     progress.clear();
     let solved = answer?;
     let status = status_of(&solved.answer);
-    let text = certificate_of(alloc, &head.bay, &head.problem, &solved.answer)?;
+    let text = certificate_by(
+        rt,
+        alloc,
+        settings.workers(),
+        &head.bay,
+        &head.problem,
+        &solved.answer,
+    )?;
     write_all(writer, &text, &mut interruptions)?;
     Ok(status)
 }

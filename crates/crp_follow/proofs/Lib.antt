@@ -15,6 +15,7 @@ mod MoveSteps
 mod FollowSteps
 pub mod Few
 pub mod TableSteps
+mod ComparingSteps
 mod KeptLaws
 mod Leaving
 pub mod FirstMoves

@@ -53,7 +53,7 @@ pub record IsFirstAt {V : Type 0} (test : YardBay → Bool) (es : List (YardBay 
   pub passes : test entry.0 ≡ true
   pub found : lookup test es ≡ Some entry.1
 
-first_at : {V : Type 0} (test : YardBay → Bool) (es : List (YardBay × V)) (i : ℕ) → position_or_len test (map (λ e. e.0) es) ≡ i → i < length es → IsFirstAt test es i
+pub first_at : {V : Type 0} (test : YardBay → Bool) (es : List (YardBay × V)) (i : ℕ) → position_or_len test (map (λ e. e.0) es) ≡ i → i < length es → IsFirstAt test es i
 first_at test [] i e lt = absurd (omega arith)
 first_at {V} test (x ∷ es) i e lt = by (test x.0) refl e (λ n own within. first_at test es n own within)
   where

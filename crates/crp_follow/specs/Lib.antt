@@ -12,5 +12,6 @@ pub mod Behind
 pub mod Kept
 pub mod Table
 pub mod Summary
+pub mod Compare
 pub mod Stopping
 pub mod Views

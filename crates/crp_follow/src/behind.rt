@@ -42,8 +42,8 @@ fn first_of(moves: &[StatedMove], count: usize) -> &[StatedMove]
     }
 }
 
-// The names of bays that are followed, in their order.
-fn names_of(alloc: Global, bays: &[FollowedBay]) -> Result<IndexSet<BayName>, AllocError>
+/// The names of bays that are followed, in their order.
+pub(crate) fn names_of(alloc: Global, bays: &[FollowedBay]) -> Result<IndexSet<BayName>, AllocError>
     requires { IsDistinct same_bay (map (λ b. b.stated.bay) bays.now) }
     ensures { IfOk result (λ names. names.keys ≡ map (λ b. b.stated.bay) bays.now) }
 {

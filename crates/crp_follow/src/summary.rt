@@ -1,7 +1,7 @@
 //! The table of the bays, for spreadsheets.
 ghost use Rattle.std.specs.Prelude.{◌≡◌, ◌++◌, map, IfOk};
 ghost use Rattle.crp_said.specs.Said.{count_said};
-ghost use Rattle.crp_follow.specs.Summary.{verdict_of, lower_of, cause_of, summary_fields, summary_text};
+ghost use Rattle.crp_follow.specs.Summary.{verdict_of, lower_of, cause_of, summary_header, summary_fields, summary_text};
 ghost use Rattle.crp_follow.specs.Table.{standing, record_text};
 ghost use Rattle.crp_follow.specs.Views.{bay_followed};
 
@@ -14,7 +14,7 @@ use itoa::Buffer;
 use std::alloc::{AllocError, Global};
 
 /// The verdict of the line of a bay, without its numbers.
-fn verdict_of(said: &Said) -> &[u8]
+pub(crate) fn verdict_of(said: &Said) -> &[u8]
     ensures { result.now ≡ verdict_of said.now }
 {
     match said {
@@ -72,9 +72,33 @@ fn standing(rows: &[Row]) -> u128
     count
 }
 
-/// The table and the record of a bay.
-fn push_bay(alloc: Global, table: Table, bay: &FollowedBay) -> Result<Table, AllocError>
-    ensures { IfOk result (λ longer. longer ≡ table ++ record_text (summary_fields (bay_followed bay.now))) }
+/// A table with the header of the table of the bays, and with columns of these names behind its own.
+pub fn summary_table(alloc: Global, more: &[&[u8]]) -> Result<Table, AllocError>
+    ensures { IfOk result (λ table. table ≡ record_text (summary_header ++ map (λ name. name.now) more.now)) }
+{
+    let header: [&[u8]; 10] = [
+        b"block",
+        b"bay",
+        b"verdict",
+        b"lower",
+        b"upper",
+        b"cause",
+        b"moves",
+        b"relocations",
+        b"takes",
+        b"left",
+    ];
+    Table::empty(alloc).push_record(alloc, header.as_slice(), more)
+}
+
+/// The table and the record of a bay, with these fields behind its own.
+pub fn push_summary(
+    alloc: Global,
+    table: Table,
+    bay: &FollowedBay,
+    more: &[&[u8]],
+) -> Result<Table, AllocError>
+    ensures { IfOk result (λ longer. longer ≡ table ++ record_text (summary_fields (bay_followed bay.now) ++ map (λ field. field.now) more.now)) }
 {
     let (mut bays, mut lowers, mut uppers) = (Buffer::new(), Buffer::new(), Buffer::new());
     let (mut counts, mut shifts, mut takes, mut lefts) = (
@@ -98,28 +122,16 @@ fn push_bay(alloc: Global, table: Table, bay: &FollowedBay) -> Result<Table, All
         takes.format(moves - relocations).as_bytes(),
         lefts.format(standing(&bay.after)).as_bytes(),
     ];
-    table.push_record(alloc, fields.as_slice(), [].as_slice())
+    table.push_record(alloc, fields.as_slice(), more)
 }
 
 /// The table of the bays: the header, and then a record for each bay in the order of the report.
 pub fn summary_text(alloc: Global, followed: &Followed) -> Result<Vec<u8>, AllocError>
     ensures { IfOk result (λ text. text.items ≡ summary_text (map bay_followed followed.now.bays.items)) }
 {
-    let header: [&[u8]; 10] = [
-        b"block",
-        b"bay",
-        b"verdict",
-        b"lower",
-        b"upper",
-        b"cause",
-        b"moves",
-        b"relocations",
-        b"takes",
-        b"left",
-    ];
-    let mut table = Table::empty(alloc).push_record(alloc, header.as_slice(), [].as_slice())?;
+    let mut table = summary_table(alloc, [].as_slice())?;
     for bay in &followed.bays {
-        table = push_bay(alloc, table, bay)?;
+        table = push_summary(alloc, table, bay, [].as_slice())?;
     }
     table.text()
 }

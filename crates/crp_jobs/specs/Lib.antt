@@ -3,6 +3,7 @@ pub mod Outcomes
 pub mod Opened
 pub mod Names
 pub mod Sized
+pub mod Printed
 pub mod Advice
 pub mod Found
 pub mod Placed

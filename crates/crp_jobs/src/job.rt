@@ -1,6 +1,7 @@
 //! What the program may be asked for.
 
 ghost use Rattle.std.specs.Prelude.{◌≡◌, IfOk, option_map};
+ghost use Rattle.crp_jobs.specs.Printed.{is_json};
 ghost use Rattle.crp_jobs.specs.Sized.{list_named, with_sizes};
 
 use crp_report::{InputSettings, RunSettings};
@@ -31,7 +32,7 @@ pub enum FileCommand {
     Rewrite,
 }
 
-/// The files of a run over a yard, by their names.
+/// The files of a run over a yard, by their names, and how its report is printed.
 #[derive(Clone, Copy)]
 pub struct RunFiles<'a> {
     /// The yard list.
@@ -46,6 +47,8 @@ pub struct RunFiles<'a> {
     pub after: Option<&'a str>,
     /// The file that stops the searches as soon as it is there, if one does. It is not opened.
     pub stop: Option<&'a str>,
+    /// Whether the report is to be printed as JSON Lines.
+    pub json: bool,
 }
 
 /// The files of an audit, by their names.
@@ -153,6 +156,18 @@ pub enum Job<'a> {
 }
 
 impl<'a> Job<'a> {
+    /// Whether a report is to be printed as JSON Lines.
+    pub fn is_json(&self) -> bool
+        ensures { result ≡ is_json self.now }
+    {
+        match self {
+            Job::Solve { files, .. } => files.json,
+            Job::OneFile { .. } | Job::Absent { .. } | Job::Audit { .. } | Job::Follow { .. } => {
+                false
+            }
+        }
+    }
+
     /// The list of sizes that the job names, if it names one, and what its input means without that.
     pub fn list_of_sizes(&self) -> Option<(&'a str, &InputSettings)>
         ensures { option_map (λ list. (list.0.now, list.1.now)) result ≡ list_named self.now }

@@ -1,5 +1,5 @@
 -- A piece that is answered leaves a sink that shows what it was given.
-use Rattle.std.proofs.Common.{◌≡◌, ℕ, ◌+◌, ◌-◌, ◌^◌, zero, suc, min, Bool, false, List, [], ◌∷◌, ◌++◌, take, Option, Some, None, refl, sym, ap, ◌∙◌, subst, arith, append_assoc}
+use Rattle.std.proofs.Common.{◌≡◌, ℕ, ◌+◌, ◌-◌, ◌^◌, zero, suc, min, List, [], ◌∷◌, ◌++◌, take, Option, Some, None, refl, sym, ap, ◌∙◌, subst, arith, append_assoc}
 use Rattle.std.specs.Prelude.{Result, Ok, Err}
 use Rattle.std.specs.List.{AllByRecursion}
 use Rattle.std.specs.Io.KnownBytes.{Appends, WriteAppends}
@@ -40,19 +40,17 @@ grown None new_holds before bytes more e a = absurd (none-some _ e)
 grown (Some xs) None before bytes more e a = absurd a
 grown (Some xs) (Some ys) before bytes more e a = ap Some (a ∙ ap (λ l. l ++ more) (same_Some xs (before ++ bytes) e) ∙ append_assoc before bytes more)
 
-pub shown_on : (held holds new_holds : Option (List ℕ)) (first : Option (List ℕ)) (failed new_failed : ℕ) (untouched : Bool) (r : Result ℕ Failure) (entries new_entries : List Entry) (piece : List ℕ)
-    → IsShown held untouched (record { first = first; entries = entries; holds = holds; failures = failed })
+pub shown_on : (held holds new_holds : Option (List ℕ)) (first : Option (List ℕ)) (failed new_failed : ℕ) (r : Result ℕ Failure) (entries new_entries : List Entry) (piece : List ℕ)
+    → IsShown held (record { first = first; entries = entries; holds = holds; failures = failed })
     → IsAnswer first failed r entries new_entries holds new_holds piece → CountsWrite failed new_failed r piece
-    → IsShown held false (record { first = first; entries = new_entries; holds = new_holds; failures = new_failed })
-shown_on held holds new_holds None failed new_failed untouched r entries new_entries piece s a counted = record {
-  start = λ e. absurd cc;
+    → IsShown held (record { first = first; entries = new_entries; holds = new_holds; failures = new_failed })
+shown_on held holds new_holds None failed new_failed r entries new_entries piece s a counted = record {
   each = subst (λ (es : List Entry). ∥ AllByRecursion IsEntry es ∥₁) (sym a.0) s.each;
   lines = λ before line is asked none. absurd (none-some line asked);
 }
-shown_on held holds new_holds (Some first) failed new_failed untouched (Ok n) entries new_entries piece s a counted =
+shown_on held holds new_holds (Some first) failed new_failed (Ok n) entries new_entries piece s a counted =
     let k = a.2 in
     record {
-      start = λ e. absurd cc;
       each = subst (λ (es : List Entry). ∥ AllByRecursion IsEntry es ∥₁) (sym k.added) (∥∥₁_map s.each (λ all. all_both IsEntry entries (k.entry ∷ []) all (k.is_entry, tt)));
       lines = λ before line is asked none.
           (let same = same_Some first line asked in
@@ -61,8 +59,7 @@ shown_on held holds new_holds (Some first) failed new_failed untouched (Ok n) en
           ∙ ap (λ (l : List ℕ). Some (before ++ l)) (sym (lines_more first entries k.entry) ∙ ap (λ (es : List Entry). lines_of first es) (sym k.added)
           ∙ ap (λ (f : List ℕ). lines_of f new_entries) same));
     }
-shown_on held holds new_holds (Some first) failed new_failed untouched (Err e) entries new_entries piece s a counted = record {
-  start = λ e. absurd cc;
+shown_on held holds new_holds (Some first) failed new_failed (Err e) entries new_entries piece s a counted = record {
   each = subst (λ (es : List Entry). ∥ AllByRecursion IsEntry es ∥₁) (sym a) s.each;
   lines = λ before line is asked none. absurd (not_none failed (sym none ∙ counted));
 }

@@ -2,10 +2,15 @@
 use Rattle.std.specs.Prelude.{◌≡◌, ℕ, List, flat_map}
 use Rattle.std.specs.List.{AllByRecursion}
 use Rattle.json.specs.Print.{print}
+use Rattle.json.specs.Token.{Token}
 use Rattle.crp_said.specs.Spelled.{ended}
 use Rattle.crp_json.specs.declared.entry.Entry.{Entry}
 use Rattle.crp_json.specs.Entries.{entry_text, IsEntry}
-use Rattle.crp_json.specs.Objects.{entry_object}
+use Rattle.crp_json.specs.Objects.{entry_object, head_object}
+
+-- the line before all, of this version of the program, and of the words with these tokens
+abbrev pub first_line : List ℕ → List Token → List ℕ
+first_line version words = ended (print (head_object version words))
 
 -- the line of an entry
 abbrev pub entry_line : Entry → List ℕ

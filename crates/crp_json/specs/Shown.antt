@@ -1,5 +1,5 @@
 -- What a sink in front of another one holds: what the other one does, or the report whose JSON Lines the other one got.
-use Rattle.std.specs.Prelude.{◌≡◌, ℕ, Bool, true, List, [], ◌∷◌, ◌++◌, length, Option, Some, None, Result, MatchResult}
+use Rattle.std.specs.Prelude.{◌≡◌, ℕ, List, [], ◌∷◌, ◌++◌, length, Option, Some, None, Result, MatchResult}
 use Rattle.std.specs.List.{AllByRecursion}
 use Rattle.std.specs.Io.KnownBytes.{Appends, WriteAppends, append_known}
 use Rattle.crp_plan.specs.declared.device.Failure.{Failure}
@@ -36,13 +36,8 @@ lines_of first (e ∷ entries) = first ++ json_of (e ∷ entries)
 abbrev pub GotLines : Option (List ℕ) → Shown → Type 0
 GotLines held s = (before first : List ℕ) → held ≡ Some before → s.first ≡ Some first → s.failures ≡ 0 → s.holds ≡ Some (before ++ lines_of first s.entries)
 
--- nothing was written yet
-abbrev pub IsUntouched : Option (List ℕ) → Shown → Type 0
-IsUntouched held s = (s.holds ≡ held) × (s.entries ≡ [])
-
 -- what holds of it at all times
-pub record IsShown (held : Option (List ℕ)) (untouched : Bool) (s : Shown) : Type 0 where
-  pub start : untouched ≡ true → IsUntouched held s
+pub record IsShown (held : Option (List ℕ)) (s : Shown) : Type 0 where
   pub each : ∥ AllByRecursion IsEntry s.entries ∥₁
   pub lines : GotLines held s
 

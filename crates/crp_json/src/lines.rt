@@ -1,5 +1,5 @@
 //! A sink that writes a report as JSON Lines.
-ghost use Rattle.std.specs.Prelude.{◌≡◌, ◌++◌, ◌∷◌, [], None, length, option_map, IfOk, OnOk, OnErr};
+ghost use Rattle.std.specs.Prelude.{◌≡◌, ◌++◌, ◌∷◌, [], length, option_map, IfOk, OnOk, OnErr};
 ghost use Rattle.std.specs.Io.{WritesAtMost};
 ghost use Rattle.std.specs.Io.KnownBytes.{Appends};
 ghost use Rattle.crp_plan.specs.Devices.{CountsWrite};
@@ -35,7 +35,6 @@ pub struct JsonLines<S: Sink, B: Begun> {
     out: S,
     first: Option<Vec<u8>>,
     entries: Vec<Entry>,
-    is_untouched: bool,
     failed: u64,
     begun: PhantomData<B>,
 }
@@ -48,7 +47,7 @@ impl<S: Sink, B: Begun> Model for JsonLines<S, B> {
 
     ghost view = { λ d. record { first = option_map (λ line. line.items) d.first; entries = d.entries.items; holds = S.contents d.out; failures = d.failed } };
 
-    ghost invariant = { λ d. IsShown B.held d.is_untouched
+    ghost invariant = { λ d. IsShown B.held
         (record { first = option_map (λ line. line.items) d.first; entries = d.entries.items; holds = S.contents d.out; failures = d.failed }) };
 }
 
@@ -146,29 +145,18 @@ fn count(failed: u64, answer: Result<usize, Failure>, piece: &[u8]) -> u64
 }
 
 impl<S: Sink, B: Begun> JsonLines<S, B> {
-    /// In front of a sink. What it is given goes on as it is.
-    pub fn new(alloc: Global, out: S) -> JsonLines<S, B>
+    /// In front of a sink. Where a first line is given, JSON Lines are asked for, behind that line; else what it is given goes on as it is.
+    pub fn new(alloc: Global, out: S, first: Option<Vec<u8>>) -> JsonLines<S, B>
         requires { B.held ≡ S.contents out }
-        ensures { result ≡ record { first = None; entries = []; holds = S.contents out; failures = 0 } }
+        ensures { result ≡ record { first = option_map (λ line. line.items) first; entries = []; holds = S.contents out; failures = 0 } }
     {
         JsonLines {
             alloc,
             out,
-            first: None,
+            first,
             entries: Vec::new(alloc),
-            is_untouched: true,
             failed: 0,
             begun: PhantomData,
-        }
-    }
-
-    /// Asks for JSON Lines, behind this first line. It holds then what it held, and where something was written to it, it goes on as before.
-    pub fn begin(&mut self, first: Vec<u8>)
-        ensures same { holds_of B.held self.new ≡ holds_of B.held self.old }
-        ensures failures { self.new.failures ≡ self.old.failures }
-    {
-        if self.is_untouched {
-            self.first = Some(first);
         }
     }
 
@@ -195,7 +183,6 @@ impl<S: Sink, B: Begun> Sink for JsonLines<S, B> {
             self.failed,
             piece,
         );
-        self.is_untouched = false;
         self.failed = count(self.failed, answer, piece);
         answer
     }

@@ -1,11 +1,9 @@
 //! Writing the object of an entry.
 ghost use Rattle.std.specs.Prelude.{◌≡◌, codes, flat_map, IfOk};
-ghost use Rattle.json.specs.Print.{print};
 ghost use Rattle.crp_said.specs.Said.{cause_words, count_said};
-ghost use Rattle.crp_said.specs.Spelled.{ended};
 ghost use Rattle.crp_json.specs.Adding.{Adds};
 ghost use Rattle.crp_json.specs.Objects.{member, array, text_token, number_token, number_or_null, verdict_words, lower_said, is_first, cause_tokens, said_members, bay_tokens, place_tokens, container_member, move_members, move_tokens, numbers_object, bay_object, last_object, entry_object, head_object};
-ghost use Rattle.crp_json.specs.Lines.{entry_line};
+ghost use Rattle.crp_json.specs.Lines.{entry_line, first_line};
 
 use crate::entry::{BayEntry, Entry};
 use crp_plan::BayName;
@@ -280,7 +278,7 @@ fn push_head(out: &mut Writer, version: &str, words: &[&str]) -> Result<(), Allo
 
 /// The first line, of this version of the program and these words, by which it was asked for the report.
 pub fn head_line(alloc: Global, version: &str, words: &[&str]) -> Result<Vec<u8>, AllocError>
-    ensures { IfOk result (λ line. line.items ≡ ended (print (head_object version.now (flat_map (λ word. text_token word.now) words.now)))) }
+    ensures { IfOk result (λ line. line.items ≡ first_line version.now (flat_map (λ word. text_token word.now) words.now)) }
 {
     let mut out = Writer::new(Vec::new(alloc));
     push_head(&mut out, version, words)?;

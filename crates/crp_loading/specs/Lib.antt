@@ -3,4 +3,5 @@ pub mod Turns
 pub mod Faults
 pub mod Loading
 pub mod Loaded
+pub mod Summary
 pub mod Views

@@ -2,6 +2,7 @@
 use Rattle.std.specs.Prelude.{ℕ, suc, List, [], ◌∷◌, Option, Some, None, if◌then◌else◌}
 use Rattle.std.specs.Str.{bytes_eq}
 use Rattle.crp_movins.specs.declared.order.Order.{Order}
+use Rattle.crp_movins.specs.Headings.{Heading}
 use Rattle.crp_movins.specs.declared.slot.Slot.{Slot}
 
 -- the number of the container in a list whose first has this number, if it stands there
@@ -18,7 +19,8 @@ abbrev pub slot_for : List Order → List ℕ → Option Slot
 slot_for [] container = None
 slot_for (order ∷ orders) container = if bytes_eq order.container container then Some order.slot else slot_for orders container
 
--- the order of the ship: the sequence in which it gets its containers, and their orders
+-- the order of the ship: the sequence in which it gets its containers, their orders, and what the message says of the ship
 pub record ShipOrder : Type 0 where
   pub sequence : List (List ℕ)
   pub orders : List Order
+  pub heading : Heading

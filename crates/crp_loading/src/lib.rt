@@ -3,7 +3,7 @@
 //! `load_table` writes the records of the moves by the turns of the containers that leave, or says the first take that does not fit the
 //! ship's order. What the turn and the slot of a container are is said in `specs/Turns.antt`, what the table is in `specs/Loading.antt`,
 //! and what is refused in `specs/Faults.antt`. `counts_up_to` says how many moves are made when the ship has its first containers
-//! (`specs/Loaded.antt`).
+//! (`specs/Loaded.antt`), and `load_summary` is the table of the bays with what no move takes of them (`specs/Summary.antt`).
 #![tactic(auto)]
 
 mod checking;
@@ -13,6 +13,7 @@ mod loaded;
 mod loading;
 mod recording;
 mod ship;
+mod summary;
 mod turning;
 
 pub use fault::LoadingFault;
@@ -21,4 +22,5 @@ pub use loaded::counts_up_to;
 pub use loading::load_table;
 pub use recording::TurnColumns;
 pub use ship::Ship;
+pub use summary::load_summary;
 pub use turning::moves_by_turns;

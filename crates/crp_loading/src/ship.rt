@@ -4,18 +4,20 @@ ghost use Rattle.crp_movins.specs.Accepted.{max_orders};
 ghost use Rattle.crp_loading.specs.Turns.{turn_of, slot_for};
 ghost use Rattle.crp_loading.specs.Views.{Numbers};
 
-use crp_movins::{Order, Orders, Slot};
+use crp_movins::{Heading, Order, Orders, Slot};
 use crp_order::Sequence;
 use crp_plan::Container;
 use std::alloc::{AllocError, Global};
 use std::collections::HashMap;
 use std::marker::Model;
 
-/// The sequence of the containers, and the orders, with the number of each container in either, from 0.
+/// The sequence of the containers, and the orders, with the number of each container in either, from 0, and what the message says of
+/// the ship.
 #[derive(Drop)]
 pub struct Ship<'a> {
     sequence: &'a [Container],
     orders: &'a [Order],
+    heading: &'a Heading,
     turns: HashMap<&'a [u8], usize>,
     places: HashMap<&'a [u8], usize>,
 }
@@ -28,7 +30,7 @@ impl<'a> Model for Ship<'a> {
 
     ghost Value = { ShipOrder };
 
-    ghost view = { λ a. record { sequence = a.sequence.now; orders = a.orders.now } };
+    ghost view = { λ a. record { sequence = a.sequence.now; orders = a.orders.now; heading = a.heading.now } };
 
     ghost invariant = { λ a. (length a.sequence.now ≤ max_orders) × Numbers a.sequence.now a.turns.entries
         × Numbers (ordered_containers a.orders.now) a.places.entries };
@@ -52,8 +54,9 @@ impl<'a> Ship<'a> {
         sequence: &'a Sequence,
         orders: &'a Orders,
     ) -> Result<Ship<'a>, AllocError>
-        ensures { IfOk result (λ ship. ship ≡ record { sequence = sequence.now; orders = orders.now.list }) }
+        ensures { IfOk result (λ ship. ship ≡ record { sequence = sequence.now; orders = orders.now.list; heading = orders.now.heading }) }
     {
+        let heading = orders.heading();
         let (sequence, orders) = (sequence.list(), orders.list());
         let names = sequenced_names(alloc, sequence)?;
         let turns = numbers_of(alloc, &names)?;
@@ -62,6 +65,7 @@ impl<'a> Ship<'a> {
         Ok(Ship {
             sequence,
             orders,
+            heading,
             turns,
             places,
         })
@@ -73,6 +77,13 @@ impl<'a> Ship<'a> {
         ensures few { length result.now ≤ max_orders }
     {
         self.sequence
+    }
+
+    /// What the message says of the ship, of its voyage and of its date.
+    pub fn heading(&self) -> &'a Heading
+        ensures { result.now ≡ self.now.heading }
+    {
+        self.heading
     }
 
     /// When the ship gets a container.

@@ -1,6 +1,7 @@
 pub mod SlotSteps
 pub mod Counting
 pub mod StandingSteps
+pub mod HeadingSteps
 pub mod ReadingSteps
 pub mod Least
 pub mod AcceptedSteps

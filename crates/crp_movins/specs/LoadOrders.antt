@@ -6,6 +6,7 @@ use Rattle.edi_text.specs.Parts.{SegmentParts}
 use Rattle.crp_movins.specs.Loading.{Loading}
 use Rattle.crp_movins.specs.declared.order.Order.{Order}
 use Rattle.crp_movins.specs.Digits.{slot_of}
+use Rattle.crp_movins.specs.Headings.{Heading, heading_of}
 use Rattle.crp_movins.specs.Places.{text_at, opens_loading_group, ordered_group}
 
 -- the order that the segment gives: its container, and the slot of the group in which it stands
@@ -44,10 +45,12 @@ vacant_before segments loading i = count_below (is_vacant segments loading i) i
 pub record LoadOrders : Type 0 where
   pub list : List Order
   pub vacant : ℕ
+  pub heading : Heading
 
--- the orders of all segments by place, and the loading slot groups without a container
+-- the orders of all segments by place, the loading slot groups without a container, and what is said of ship and date
 abbrev pub load_orders_of : List SegmentParts → Loading → LoadOrders
 load_orders_of segments loading = record {
   list = orders_before segments loading (length segments + 1);
   vacant = vacant_before segments loading (length segments + 1);
+  heading = heading_of segments loading;
 }

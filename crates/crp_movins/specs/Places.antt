@@ -17,6 +17,10 @@ segment_numbered segments i = unwrap_or (segment_at segments i) no_segment
 unfoldable pub kind_at : List SegmentParts → ℕ → Kind
 kind_at segments i = kind_of (segment_numbered segments i)
 
+-- the tag of the segment with this number
+unfoldable pub tag_at : List SegmentParts → ℕ → List ℕ
+tag_at segments i = (segment_numbered segments i).tag
+
 -- the component of the element of the segment with this number
 unfoldable pub text_at : List SegmentParts → ℕ → ℕ → ℕ → List ℕ
 text_at segments i element component = component_of (segment_numbered segments i) element component

@@ -5,7 +5,9 @@ use Rattle.edi_text.specs.Parts.{SegmentParts}
 use Rattle.crp_movins.specs.Loading.{Loading}
 use Rattle.crp_movins.specs.declared.slot.Slot.{Slot}
 use Rattle.crp_movins.specs.declared.standing.Standing.{Standing}
+use Rattle.crp_movins.specs.declared.headed.Headed.{Headed}
 use Rattle.crp_movins.specs.Digits.{slot_of}
+use Rattle.crp_movins.specs.Headings.{first_before, names_ship, names_date}
 use Rattle.crp_movins.specs.Kinds.{is_message_header, is_interchange_trailer}
 use Rattle.crp_movins.specs.Places.{text_at, last_before, count_before, open_message, is_read, is_loading, loading_group}
 use Rattle.crp_movins.specs.LoadOrders.{is_filled, vacant_before}
@@ -29,4 +31,11 @@ standing_before segments loading i = record {
   group = open_slot segments loading i;
   is_filled = is_group_filled segments loading i (loading_group segments loading i);
   vacant = vacant_before segments loading i;
+}
+
+-- the segments before this one that say the ship and the date
+abbrev pub headed_before : List SegmentParts → Loading → ℕ → Headed
+headed_before segments loading i = record {
+  ship = first_before (names_ship segments loading) i;
+  date = first_before (names_date segments loading) i;
 }

@@ -3,7 +3,7 @@
 ghost use Rattle.std.specs.Prelude.{◌≡◌};
 ghost use Rattle.std.specs.Str.{bytes_eq};
 ghost use Rattle.crp_movins.specs.Kinds.{kind_of, names_container, names_slot, is_interchange_header, is_message_header, is_functional_group, belongs_outside, may_follow, is_equipment};
-ghost use Rattle.crp_movins.specs.Places.{kind_at, text_at, elements_at};
+ghost use Rattle.crp_movins.specs.Places.{kind_at, text_at, elements_at, tag_at};
 
 use edi_text::{Segment, Segments};
 
@@ -138,6 +138,17 @@ pub(crate) fn kind_at(segments: &Segments, number: usize) -> Kind
     match segments.segment(number) {
         Some(segment) => kind_of(&segment),
         None => Kind::Other,
+    }
+}
+
+#[tactic(auto, unfolding(crate::specs::Places::tag_at))]
+/// The tag of the segment with this number; no bytes where there is no such segment.
+pub(crate) fn tag_at<'a>(segments: &'a Segments, number: usize) -> &'a [u8]
+    ensures { result.now ≡ tag_at segments.now number }
+{
+    match segments.segment(number) {
+        Some(segment) => segment.tag(),
+        None => &[],
     }
 }
 

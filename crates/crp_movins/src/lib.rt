@@ -9,6 +9,8 @@
 mod collected;
 mod digits;
 mod fault;
+mod headed;
+mod heading;
 mod kind;
 mod laws;
 mod loading;
@@ -19,6 +21,7 @@ mod slot;
 mod standing;
 
 pub use fault::MovinsFault;
+pub use heading::Heading;
 pub use laws::{
     first_fault_is_least, last_is_last, orders_by_places, orders_stand_by_place, vacant_by_places,
 };

@@ -3,6 +3,7 @@
 ghost use Rattle.std.specs.Prelude.{◌≡◌, IfOk};
 ghost use Rattle.crp_movins.specs.Accepted.{AreLoadOrders};
 
+use crate::heading::Heading;
 use crate::slot::Slot;
 use crp_plan::Container;
 use std::alloc::{AllocError, Global};
@@ -20,6 +21,7 @@ pub struct Order {
 pub struct Orders {
     list: Vec<Order>,
     vacant: usize,
+    heading: Heading,
 }
 
 impl Model for Orders {
@@ -28,18 +30,22 @@ impl Model for Orders {
 
     ghost Value = { LoadOrders };
 
-    ghost view = { λ a. record { list = a.list.items; vacant = a.vacant } };
+    ghost view = { λ a. record { list = a.list.items; vacant = a.vacant; heading = a.heading } };
 
     ghost invariant = { λ a. AreLoadOrders a.list.items };
 }
 
 impl Orders {
-    /// These orders by place, beside so many loading slot groups without a container. Takes no memory.
-    pub fn new(list: Vec<Order>, vacant: usize) -> Orders
+    /// These orders by place, beside so many loading slot groups without a container, under this heading. Takes no memory.
+    pub fn new(list: Vec<Order>, vacant: usize, heading: Heading) -> Orders
         requires { AreLoadOrders list.items }
-        ensures { result ≡ record { list = list.items; vacant = vacant } }
+        ensures { result ≡ record { list = list.items; vacant = vacant; heading = heading } }
     {
-        Orders { list, vacant }
+        Orders {
+            list,
+            vacant,
+            heading,
+        }
     }
 
     /// The orders by place.
@@ -60,9 +66,11 @@ impl Orders {
             let slot = order.slot;
             list.push(Order { container, slot })?;
         }
+        let heading = self.heading.copy(alloc)?;
         Ok(Orders {
             list,
             vacant: self.vacant,
+            heading,
         })
     }
 
@@ -71,7 +79,7 @@ impl Orders {
         ensures value { result.items ≡ self.list }
         ensures accepted { AreLoadOrders result.items }
     {
-        let Orders { list, vacant: _ } = self;
+        let Orders { list, .. } = self;
         list
     }
 
@@ -80,5 +88,12 @@ impl Orders {
         ensures { result ≡ self.now.vacant }
     {
         self.vacant
+    }
+
+    /// What the messages say of their ship and of their date.
+    pub fn heading(&self) -> &Heading
+        ensures { result.now ≡ self.now.heading }
+    {
+        &self.heading
     }
 }

@@ -7,6 +7,7 @@ ghost use Rattle.crp_movins.specs.declared.fault.MovinsFault.TheVariants.{Memory
 
 use crate::collected::Collected;
 use crate::fault::MovinsFault;
+use crate::headed::Headed;
 use crate::kind::kind_at;
 use crate::loading::Loading;
 use crate::order::Orders;
@@ -18,7 +19,7 @@ use std::alloc::Global;
 pub const MAX_ORDERS: usize = 10000;
 
 /// The load orders that are read, by place, and else the first fault (UN/EDIFACT D.95B
-/// MOVINS; of the message's segment table HAN, LOC and EQD alone are looked at).
+/// MOVINS; of the message's segment table TDT, DTM, HAN, LOC and EQD alone are looked at).
 pub fn load_orders(
     alloc: Global,
     segments: &Segments,
@@ -31,6 +32,7 @@ pub fn load_orders(
         ⊎ (first_fault segments.now loading.now ≡ Some fault)) }
 {
     let mut standing = Standing::start();
+    let mut headed = Headed::start();
     let mut orders = Collected::new(alloc);
     let mut number = 1;
     'segments: while number <= segments.count() {
@@ -44,11 +46,13 @@ pub fn load_orders(
             return Err(fault);
         }
         standing.take_order(alloc, &at, kind, &mut orders)?;
+        headed = headed.after(&at, standing.is_read);
         standing = standing.after(&at, kind);
         number += 1;
     }
     if !standing.is_closed {
         return Err(MovinsFault::OutOfPlace { segment: number });
     }
-    Ok(Orders::new(orders.into_list(), standing.vacant))
+    let heading = headed.read(alloc, segments)?;
+    Ok(Orders::new(orders.into_list(), standing.vacant, heading))
 }

@@ -5,7 +5,7 @@ ghost use Rattle.std.specs.Str.{bytes_eq};
 ghost use Rattle.edi_text.specs.Parts.{SegmentParts};
 ghost use Rattle.crp_movins.specs.Loading.{Loading};
 ghost use Rattle.crp_movins.specs.Kinds.{is_message_header};
-ghost use Rattle.crp_movins.specs.Places.{kind_at, text_at, is_read, is_loading, count_before, open_message};
+ghost use Rattle.crp_movins.specs.Places.{kind_at, tag_at, text_at, is_read, is_loading, count_before, open_message};
 ghost use Rattle.crp_movins.specs.LoadOrders.{orders_before, order_at};
 ghost use Rattle.crp_movins.specs.Faults.{is_out_of_place, is_movins, own_faults, first_of, fault_at, first_fault_before};
 ghost use Rattle.crp_movins.specs.Standings.{standing_before, open_slot};
@@ -15,7 +15,7 @@ ghost use Rattle.crp_movins.specs.declared.kind.Kind.TheVariants.{InterchangeHea
 use crate::collected::Collected;
 use crate::digits::counts;
 use crate::fault::MovinsFault;
-use crate::kind::{Kind, elements_at, is_text, text_at};
+use crate::kind::{Kind, elements_at, is_text, tag_at, text_at};
 use crate::loading::Loading;
 use crate::ordering::ordering_before;
 use crate::reading::MAX_ORDERS;
@@ -32,6 +32,12 @@ pub(crate) struct Place<'a> {
 }
 
 impl<'a> Place<'a> {
+    pub fn tag(&self) -> &'a [u8]
+        ensures { result.now ≡ tag_at self.now.segments.now self.now.number }
+    {
+        tag_at(self.segments, self.number)
+    }
+
     pub fn text(&self, element: usize, component: usize) -> &'a [u8]
         ensures { result.now ≡ text_at self.now.segments.now self.now.number element component }
     {

@@ -7,5 +7,6 @@ pub mod Grounds
 pub mod Summary
 pub mod Sections
 pub mod Turns
+pub mod Sheets
 pub mod Page
 pub mod Writing

@@ -10,21 +10,23 @@ use Rattle.crp_page.specs.Grounds.{sizes, hidden_ground}
 use Rattle.crp_page.specs.Summary.{paragraph, table}
 use Rattle.crp_page.specs.Sections.{section}
 use Rattle.crp_page.specs.Turns.{turns_part}
+use Rattle.crp_page.specs.Sheets.{ship_rule}
 
--- the head, and where the body begins
-abbrev pub page_head : List ℕ → List ℕ
-page_head heights = HEAD_OF_PAGE.now ++ (codes "<body><main style=\"" ++ (sizes heights ++ codes "\">\n<h1>Crane moves</h1>\n"))
+-- the head, with the ship on each sheet where there is one, and where the body begins
+abbrev pub page_head : List ℕ → Option ShipOrder → List ℕ
+page_head heights ship =
+    HEAD_OF_PAGE.now ++ (ship_rule ship ++ (codes "</style></head><body><main style=\"" ++ (sizes heights ++ codes "\">\n<h1>Crane moves</h1>\n")))
 
 -- the key of the pictures, and their ground
 abbrev pub page_key : List ℕ → List ℕ
 page_key heights = KEY.now ++ hidden_ground None heights
 
 -- what stands before the sections: the sizes and the ground are those of a bay that is not listed
-abbrev pub page_front : Inventory → OrderNumbers → List BayFollowed → List ℕ
-page_front yard n bays =
-    page_head yard.sizes.common ++ (paragraph (length yard.bays) n bays ++ (table bays ++ page_key yard.sizes.common))
+abbrev pub page_front : Inventory → OrderNumbers → Option ShipOrder → List BayFollowed → List ℕ
+page_front yard n ship bays =
+    page_head yard.sizes.common ship ++ (paragraph (length yard.bays) n bays ++ (table bays ++ page_key yard.sizes.common))
 
 -- the page, with the ship's order where there is one
 abbrev pub page_text : Inventory → OrderNumbers → Option ShipOrder → List BayFollowed → List ℕ
 page_text yard n ship bays =
-    page_front yard n bays ++ (turns_part ship bays ++ (numbered_text (section yard.sizes ship) 1 bays ++ codes "</main></body></html>\n"))
+    page_front yard n ship bays ++ (turns_part ship bays ++ (numbered_text (section yard.sizes ship) 1 bays ++ codes "</main></body></html>\n"))

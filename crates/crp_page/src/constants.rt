@@ -1,6 +1,6 @@
 //! The parts of the page that are the same in each.
 
-/// The head of the page: its type, its title and its style sheet.
+/// The head of the page: its type, its title and its style sheet, which is still open.
 pub const HEAD_OF_PAGE: &[u8] = br#"<!DOCTYPE html>
 <html lang="en"><head><meta charset="utf-8"/><meta name="viewport" content="width=device-width"/><title>Crane moves</title><style>
 :root{color-scheme:light dark;--p:#fff;--i:#15202e;--u:#5a6675;--f:#f1f4f7;--r:#dfe4ea;--k0:#79b3ec;--k1:#9ac5f1;--k2:#b7d5f5;--k3:#cfe3f8;--k4:#e2eefb;--ks:#d9dcdf;--km:#ffa04d;--kt:#4fc98a;--d:#c2410c;--g:#0d7a43}
@@ -52,7 +52,7 @@ path{fill:none;stroke-width:28}
 @page{size:A4;margin:13mm 10mm 8mm;@top-left{content:"Crane moves";font:9pt sans-serif}@top-right{content:"sheet " counter(page) " of " counter(pages);font:9pt sans-serif}}
 @page wide{size:A4 landscape}
 @media print{section p a,.s{display:none}main{padding:0;max-width:none}body{font-size:12px}h1{font-size:18px}table{margin:6px 0}ul{font-size:11px;margin:4px 0;gap:2px 14px}ul svg{width:30px}th,td{padding:1px 10px}tfoot{display:table-row-group}tr,ul,figure,section,header{break-inside:avoid}main:has(section:target)>:not(:target){display:none}section{display:table;width:100%;padding:0;margin:0 0 12px}header{display:table-header-group}header h2{font-size:15px;display:inline}header p{display:inline;margin:0 0 0 10px}section>div{display:table-row-group}section>div>div{display:block;font-size:0}figure{content-visibility:visible;display:inline-block;vertical-align:top;width:var(--q);padding:6px 8px 0 0}code{font-size:9px}figcaption{font-size:9.5px;line-height:1.3;padding-left:8px}ol{columns:auto;padding-left:18px}ol li::before{content:"\2610\A0"}*{-webkit-print-color-adjust:exact;print-color-adjust:exact}}
-</style></head>"#;
+"#;
 
 /// The head of the table of the bays.
 pub const TABLE_HEAD: &[u8] =

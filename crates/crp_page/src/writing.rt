@@ -144,7 +144,7 @@ fn write_parts<W: Sink>(
     let bays: &[FollowedBay] = &followed.bays;
     write_made(
         sink,
-        page_front(alloc, yard, numbers, followed),
+        page_front(alloc, yard, numbers, ship, followed),
         interruptions,
     )?;
     write_made(sink, turns_part(alloc, ship, bays), interruptions)?;

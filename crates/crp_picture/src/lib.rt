@@ -31,4 +31,5 @@ pub use frame::Frame;
 pub use framing::{LaterFrames, frames};
 pub use ground::{push_ground, push_ground_name};
 pub use laws::{each_is_drawn_once, places_lie_apart};
+pub use names::push_hex_byte;
 pub use picture::{push_end, push_frame, push_start};

@@ -73,8 +73,8 @@ fn hex_digit(n: u8) -> u8
     if n < 10 { b'0' + n } else { b'A' - 10 + n }
 }
 
-// Adds a byte as \x and two digits of base 16.
-fn push_hex_byte(text: &mut Vec<u8>, byte: u8) -> Result<(), AllocError>
+/// Adds a byte as `\x` and two digits of base 16.
+pub fn push_hex_byte(text: &mut Vec<u8>, byte: u8) -> Result<(), AllocError>
     ensures { OnOk result (text.new.items ≡ text.old.items ++ hex_byte byte) }
 {
     text.extend_from_slice(b"\\x")?;

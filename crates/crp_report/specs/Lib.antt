@@ -17,4 +17,5 @@ pub mod Writing
 pub mod Words
 pub mod Watching
 pub mod Timing
+pub mod Posed
 pub mod Looks

@@ -42,6 +42,15 @@ sinks_of report report_failures certificates certificates_failures yard_after ya
   passed = s.interruptions;
 }
 
+-- and by what the values of three sinks that stand alone state
+abbrev pub sinks_at : {W C A : Type 0} → (W → Option (List ℕ)) → (W → ℕ) → (C → Option (List ℕ)) → (C → ℕ) → (A → Option (List ℕ)) → (A → ℕ) → W → C → A → ℕ → Sinks
+sinks_at report report_failures certificates certificates_failures yard_after yard_after_failures w c a passed = record {
+  report = record { holds = report w; failures = report_failures w };
+  certificates = record { holds = certificates c; failures = certificates_failures c };
+  yard_after = record { holds = yard_after a; failures = yard_after_failures a };
+  passed = passed;
+}
+
 -- they are the same sinks as before
 pub record AreSameSinks {W C A : Type 0} (before after : RunSinks W C A) : Type 0 where
   pub report : after.report.ghost_name ≡ before.report.ghost_name

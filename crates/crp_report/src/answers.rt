@@ -3,12 +3,14 @@ ghost use Rattle.std.specs.Prelude.{◌≡◌, IfOk};
 ghost use Rattle.crp_report.specs.Answered.{said_by, status_of};
 ghost use Rattle.crp_report.specs.Report.{text_of};
 
+use crate::by_workers::text_by;
 use crate::status::Status;
-use crp_cert::{cert_text, first_text};
+use crp_cert::{Claim, cert_text, first_text};
 use crp_plan::{BayName, Problem};
 use crp_said::{Said, SaidCause};
 use crp_solve::{Answer, Cause};
 use std::alloc::{AllocError, Global};
+use std::thread::Threads;
 
 /// How a search ended.
 pub fn status_of(answer: &Answer) -> Status
@@ -71,6 +73,38 @@ pub fn certificate_of(
         Answer::NoPlan { cert } => cert_text(alloc, bay, problem, cert, None),
         Answer::Between { cert, plan, .. } => {
             cert_text(alloc, bay, problem, cert, plan.as_ref())
+        }
+    }
+}
+
+/// The same text, which so many workers write, or one of them where it is short.
+pub fn certificate_by<T: Threads + Sync>(
+    rt: &T,
+    alloc: Global,
+    workers: u32,
+    bay: &BayName,
+    problem: &Problem,
+    answer: &Answer,
+) -> Result<Vec<u8>, AllocError>
+    ensures { IfOk result (λ text. text.items ≡ text_of bay.now problem.now answer.now) }
+{
+    let workers = workers as usize;
+    match answer {
+        Answer::Optimal { plan, cert } => {
+            let claim = Claim::AtLeast(cert.lower());
+            text_by(rt, alloc, workers, bay, problem, cert, claim, Some(plan))
+        }
+        Answer::First { plan, cert } => {
+            let claim = Claim::First(cert.lower());
+            text_by(rt, alloc, workers, bay, problem, cert, claim, Some(plan))
+        }
+        Answer::NoPlan { cert } => {
+            let claim = Claim::AtLeast(cert.lower());
+            text_by(rt, alloc, workers, bay, problem, cert, claim, None)
+        }
+        Answer::Between { cert, plan, .. } => {
+            let claim = Claim::AtLeast(cert.lower());
+            text_by(rt, alloc, workers, bay, problem, cert, claim, plan.as_ref())
         }
     }
 }

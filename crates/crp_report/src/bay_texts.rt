@@ -3,12 +3,13 @@ ghost use Rattle.std.specs.Prelude.{IfOk};
 ghost use Rattle.crp_report.specs.Report.{AreBayLines};
 ghost use Rattle.crp_report.specs.BayTexts.{AreTextsOfBay};
 
-use crate::answers::{certificate_of, said_of};
+use crate::answers::{certificate_by, certificate_of, said_of};
 use crate::lines::answer_lines;
 use crp_order::BayProblem;
 use crp_said::{names_of, push_bay_line};
 use crp_solve::Solved;
 use std::alloc::{AllocError, Global};
+use std::thread::Threads;
 
 /// What is stated of a bay.
 #[derive(Drop)]
@@ -42,6 +43,24 @@ pub(crate) fn texts_of_bay(
 {
     let report = bay_lines(alloc, bay, solved)?;
     let certificate = certificate_of(alloc, &bay.bay, &bay.problem, &solved.answer)?;
+    Ok(BayTexts {
+        report,
+        certificate,
+    })
+}
+
+/// States the same, where so many workers write the certificate.
+pub(crate) fn texts_by<T: Threads + Sync>(
+    rt: &T,
+    alloc: Global,
+    workers: u32,
+    bay: &BayProblem,
+    solved: &Solved,
+) -> Result<BayTexts, AllocError>
+    ensures { IfOk result (AreTextsOfBay (record { stated = bay.now; solved = solved.now })) }
+{
+    let report = bay_lines(alloc, bay, solved)?;
+    let certificate = certificate_by(rt, alloc, workers, &bay.bay, &bay.problem, &solved.answer)?;
     Ok(BayTexts {
         report,
         certificate,

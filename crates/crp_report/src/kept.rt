@@ -1,13 +1,14 @@
 //! What is kept of the bays that are written.
-ghost use Rattle.std.specs.Prelude.{◌≡◌, ◌+◌, ◌-◌, ◌^◌, ◌<◌, ◌≤◌, List, [], ◌∷◌, ◌++◌, OnOk, option_to_list, if◌then◌else◌};
-ghost use Rattle.crp_report.specs.Answered.{Answered, bay_plan_in, is_decided, both};
+ghost use Rattle.std.specs.Prelude.{◌≡◌, ◌+◌, ◌-◌, ◌^◌, ◌<◌, ◌≤◌, List, [], ◌∷◌, ◌++◌, IfOk, OnOk, option_to_list, if◌then◌else◌};
+ghost use Rattle.crp_report.specs.Answered.{Answered, plan_in, bay_plan_in, is_decided, both};
 ghost use Rattle.crp_report.specs.Writing.{AreKept};
 
 use crate::answers::status_of;
 use crate::status::Status;
 use crp_order::BayProblem;
+use crp_plan::{Container, Plan};
 use crp_solve::{Answer, Solved};
-use crp_yard::BayPlan;
+use crp_yard::{BayPlan, Containers};
 use std::alloc::{AllocError, Global};
 
 /// What is kept of the bays that are written.
@@ -48,11 +49,11 @@ fn with_decided(decided: usize, status: Status) -> usize
     }
 }
 
-// The plan of a bay, if there is one.
-fn bay_plan(bay: BayProblem, solved: Solved) -> Option<BayPlan>
-    ensures { result ≡ bay_plan_in (record { stated = bay; solved = solved }) }
+// The plan in an answer, if there is one.
+fn plan_of(answer: Answer) -> Option<Plan>
+    ensures { result ≡ plan_in answer }
 {
-    let plan = match solved.answer {
+    match answer {
         Answer::Optimal { plan, cert: _cert } => Some(plan),
         Answer::First { plan, cert: _cert } => Some(plan),
         Answer::NoPlan { cert: _cert } => None,
@@ -62,24 +63,36 @@ fn bay_plan(bay: BayProblem, solved: Solved) -> Option<BayPlan>
             cert: _cert,
             cause: _,
         } => plan,
-    };
-    let BayProblem {
-        bay,
-        problem: _,
-        names,
-    } = bay;
-    match plan {
-        Some(plan) => Some(BayPlan { bay, plan, names }),
-        None => None,
     }
 }
 
-// One plan more, if there is one.
-fn push_plan(plans: &mut Vec<BayPlan>, plan: Option<BayPlan>) -> Result<(), AllocError>
-    ensures { OnOk result (plans.new.items ≡ plans.old.items ++ option_to_list plan) }
+// The same containers once more.
+fn copied(alloc: Global, list: &[Container]) -> Result<Containers, AllocError>
+    ensures { IfOk result (λ copy. copy ≡ list.now) }
 {
-    if let Some(plan) = plan {
-        plans.push(plan)?;
+    let mut copy = Vec::new(alloc);
+    for container in list {
+        copy.push(Container::named(alloc, container.bytes())?)?;
+    }
+    Ok(Containers::from_vec(copy))
+}
+
+// One plan more, if the bay has one.
+fn push_plan(
+    alloc: Global,
+    plans: &mut Vec<BayPlan>,
+    bay: &BayProblem,
+    solved: Solved,
+) -> Result<(), AllocError>
+    ensures { OnOk result (plans.new.items ≡ plans.old.items ++ option_to_list (bay_plan_in (record { stated = bay.now; solved = solved }))) }
+{
+    if let Some(plan) = plan_of(solved.answer) {
+        let names = copied(alloc, bay.names.list())?;
+        plans.push(BayPlan {
+            bay: bay.bay.copy(),
+            plan,
+            names,
+        })?;
     }
     Ok(())
 }
@@ -98,14 +111,19 @@ impl BaysDone {
     }
 
     /// One bay more, which is answered so.
-    pub(crate) fn push(&mut self, bay: BayProblem, solved: Solved) -> Result<(), AllocError>
+    pub(crate) fn push(
+        &mut self,
+        alloc: Global,
+        bay: &BayProblem,
+        solved: Solved,
+    ) -> Result<(), AllocError>
         requires few { self.old.bays < 2 ^ 64 - 1 }
         requires within { self.old.decided ≤ self.old.bays }
         ensures { OnOk result ((answered : List Answered) → AreKept answered self.old
-            → AreKept (answered ++ record { stated = bay; solved = solved } ∷ []) self.new) }
+            → AreKept (answered ++ record { stated = bay.now; solved = solved } ∷ []) self.new) }
     {
         let status = status_of(&solved.answer);
-        push_plan(&mut self.plans, bay_plan(bay, solved))?;
+        push_plan(alloc, &mut self.plans, bay, solved)?;
         self.bays += 1;
         self.decided = with_decided(self.decided, status);
         self.status = together(self.status, status);

@@ -64,6 +64,35 @@ impl Reasons {
         self.text.as_slice()
     }
 
+    // Tries to close a node by reasons that show just so many relocations. It stands apart, since a bay with its thinned branches takes more
+    // than a kilobyte, which a caller that has this in itself would clear at each node.
+    #[inline(never)]
+    fn close_at<L: Limit>(
+        &mut self,
+        position: &Position,
+        bound: u8,
+        limit: &mut L,
+    ) -> Result<(), Unclosed>
+        ensures thinning { self.new.thinning ≡ self.old.thinning }
+        ensures shown { IfOk result (λ _. Closes position.now.place bound self.new.text.items) }
+        ensures granted { IfOk result (λ _. OnlyGranted 0 self.old.thinning.most (L.view limit.old) (L.view limit.new)) }
+        ensures ended { IfErr result (λ why. EndsTry self.old.thinning.most why (L.view limit.old) (L.view limit.new)) }
+        ensures same { (L.problem limit.new ≡ L.problem limit.old) × (L.budget limit.new ≡ L.budget limit.old) × (L.puts limit.new ≡ L.puts limit.old) }
+    {
+        let Thinning { most, rows } = self.thinning;
+        self.text.clear();
+        let mut place = Thinned::of(position);
+        close_thinned(
+            &mut place,
+            u32::from(bound),
+            most,
+            rows,
+            limit,
+            &mut self.text,
+        )?;
+        Ok(())
+    }
+
     /// Tries to close a node by reasons that show so many relocations. More than a byte says are not shown.
     fn close<L: Limit>(
         &mut self,
@@ -82,16 +111,7 @@ impl Reasons {
             return Err(Unclosed::Open);
         }
         let bound = need as u8;
-        self.text.clear();
-        let mut place = Thinned::of(position);
-        close_thinned(
-            &mut place,
-            u32::from(bound),
-            most,
-            rows,
-            limit,
-            &mut self.text,
-        )?;
+        self.close_at(position, bound, limit)?;
         Ok(bound)
     }
 

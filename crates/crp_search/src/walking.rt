@@ -152,7 +152,7 @@ fn close<S: Seek, L: Limit>(
 }
 
 /// Puts the name of the path where it has at most `split` rows, and answers whether it was accepted.
-#[inline]
+#[inline(always)]
 fn give<L: Limit>(path: &[u8], split: u8, limit: &mut L) -> bool
     requires { split ≤ 8 }
     ensures short { IsTrue result → length path.now ≤ split }

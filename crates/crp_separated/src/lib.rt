@@ -1,13 +1,12 @@
 //! Lists with another byte than a comma between their fields, seen as the lists with commas that have the same records.
 //!
 //! `Separated` is a source of such a list, and gives the bytes of the list with commas; `Unmarked` is a source without the byte order mark
-//! of another; `list_with` translates a whole text, in either direction. `ListFiles` are files among which some are such lists, to be read.
+//! of another; `list_with` translates a whole text, in either direction. `ListInput` is a file that is opened, seen as such a list or as it is.
 //! That the records are the same is the law `records_are_the_same`.
 #![tactic(auto)]
 
 mod input;
 mod laws;
-mod lists;
 mod places;
 mod separated;
 mod texts;
@@ -16,7 +15,6 @@ mod unmarked;
 
 pub use input::ListInput;
 pub use laws::records_are_the_same;
-pub use lists::{ListFiles, ListNames, Lists};
 pub use places::Place;
 pub use separated::Separated;
 pub use texts::list_with;

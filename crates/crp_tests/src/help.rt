@@ -26,7 +26,7 @@ fn shows_help(rt: HostRuntime) {
 }
 
 // What the help of `solve` says of its words, its options and their defaults.
-const HELP: [&str; 31] = [
+const HELP: [&str; 32] = [
     "Usage: crp solve [OPTIONS] <YARD> <MOVINS>",
     "--rows <N>",
     "1 to 12 [default: 6]",
@@ -58,6 +58,7 @@ const HELP: [&str; 31] = [
     "--after <FILE>",
     "--quiet",
     "--progress",
+    "--json",
 ];
 
 // The help that words ask for; nothing where they ask for none.

@@ -36,7 +36,7 @@ fn parted(word: &str) -> (&str, Option<&str>) {
 }
 
 /// The words of the audit of a run of `solve` with these words: its input, its report and its certificates. Nothing where the words are
-/// others, or the run writes no certificates.
+/// others, or the run writes no certificates, or another report than is read.
 pub(crate) fn audit_of<'a>(
     alloc: Global,
     words: &[&'a str],
@@ -66,6 +66,7 @@ pub(crate) fn audit_of<'a>(
             }
             Some(_) => {}
             None if OF_INPUT.contains(&name) || OF_SEARCH.contains(&name) => begun = Some(name),
+            None if name == "--json" => return Ok(None),
             None if !name.starts_with("--") => audit.push(name)?,
             None => {}
         }

@@ -12,8 +12,8 @@
 //! - `= NAME` has as its text what the file of this name must hold;
 //! - `- NAME` says that there must be no file of this name.
 //!
-//! What a run of `solve` with certificates wrote is audited, too, and the audit must be a yes. Where the words name a limit of time, the clock
-//! of the run is a second later at each reading.
+//! What a run of `solve` with certificates wrote is audited, too, and the audit must be a yes, but where it wrote JSON Lines. Where the words
+//! name a limit of time, the clock of the run is a second later at each reading.
 //!
 //! In a text `\xHH` is a byte, `\\` a backslash, and a line that ends with `\` gives no line end. Empty lines count for nothing.
 //!

@@ -4,13 +4,23 @@ use crate::blocks::{Block, Mark, blocks_of};
 use crate::ticking::Ticking;
 use crp_commands::{NoTerminal, Streams};
 use crp_files::SystemFiles;
+use crp_json::{Begun, JsonLines};
 use crp_plan::{Counted, Received, write_all};
-use crp_words::run_words;
+use crp_words::{json_head, run_words};
 use std::alloc::{AllocError, Global};
 use std::os::unix::fs::symlink;
 use std::sync::Wait;
 use std::thread::Threads;
 use std::{fs, io};
+
+// What the standard output of a run holds before it.
+struct Empty;
+
+impl Begun for Empty {
+    ghost use Rattle.std.specs.Prelude.{[], Some};
+
+    ghost held = { Some [] };
+}
 
 // What the last run wrote to the standard error, and its exit status, as far as no block has spoken of them; how many runs there were, and
 // how many of them were audited.
@@ -130,9 +140,11 @@ fn run<T: Threads + Wait + Sync>(
 ) -> io::Result<bool> {
     let (words, input) = words_of(rt, block.words)?;
     let input = input_of(rt, input)?;
+    let head = json_head(rt.alloc(), &words).unwrap_or(None);
+    let received = Received::new(rt.alloc());
     let mut streams = Streams {
         input: input.as_slice(),
-        out: Received::new(rt.alloc()),
+        out: JsonLines::<_, Empty>::new(rt.alloc(), received, head),
         errors: Received::new(rt.alloc()),
     };
     played.status = run_words(
@@ -144,11 +156,11 @@ fn run<T: Threads + Wait + Sync>(
         &Ticking::of(rt, &words),
     );
     played.errors = streams.errors.bytes;
-    let written = streams.out.bytes;
+    let written = &streams.out.out().bytes;
     played.runs = played.runs.saturating_add(1);
     Ok(
-        is_same(rt, block.line, &written, &block.text)?
-            && audit(rt, threads, played, block.line, &words, &written)?,
+        is_same(rt, block.line, written, &block.text)?
+            && audit(rt, threads, played, block.line, &words, written)?,
     )
 }
 

@@ -80,6 +80,10 @@ quiet_rule = flag_rule (codes "quiet")
 abbrev pub progress_rule : Rule
 progress_rule = flag_rule (codes "progress")
 
+-- whether the report is printed as JSON Lines: it is not where the flag is not given
+abbrev pub json_rule : Rule
+json_rule = flag_rule (codes "json")
+
 -- whether a report may end early: it may not where the flag is not given
 abbrev pub partial_rule : Rule
 partial_rule = flag_rule (codes "partial")
@@ -161,9 +165,9 @@ with_bays shape = with_option (repeated_rule (codes "bay")) (with_orders shape)
 abbrev pub with_files : Shape → Shape
 with_files shape = with_option (optional_rule (codes "after")) (with_option (optional_rule (codes "cert")) shape)
 
--- a command with these, [--quiet] and [--progress]
+-- a command with these, [--quiet], [--progress] and [--json]
 abbrev pub with_outputs : Shape → Shape
-with_outputs shape = with_option progress_rule (with_option quiet_rule (with_files shape))
+with_outputs shape = with_option json_rule (with_option progress_rule (with_option quiet_rule (with_files shape)))
 
 -- a command with [--page FILE]
 abbrev pub with_page : Shape → Shape

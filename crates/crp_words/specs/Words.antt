@@ -273,11 +273,17 @@ HasSettings found s = HasSearch found s.search × HasInput found s.input
 abbrev pub MayNameSizes : List Row → Option (Bor Text) → Type 0
 MayNameSizes found name = first_of (codes "sizes") found ≡ option_map (λ text. text.now) name
 
--- the files of solve that were found: the two inputs, the list of sizes, if there is one, the outputs that are wanted, and the file that stops it, if there is one
+-- the report is printed as JSON Lines exactly where the words give the flag
+abbrev pub MayBeJson : List Row → Bool → Type 0
+MayBeJson found json = IsTrue json ↔ IsGivenByWords (codes "json") found
+
+-- the files of solve that were found: the two inputs, the list of sizes, if there is one, the outputs that are wanted, and the file that stops it, if there is one;
+-- and whether its report is printed as JSON Lines
 abbrev pub HasFiles : List Row → RunFiles → Type 0
 HasFiles found names = HasText (codes "yard") found names.yard.now × HasText (codes "movins") found names.movins.now
     × (first_of (codes "cert") found ≡ option_map (λ text. text.now) names.cert)
     × (first_of (codes "after") found ≡ option_map (λ text. text.now) names.after) × MayNameSizes found names.sizes × MayNameStop found names.stop
+    × MayBeJson found names.json
 
 -- the files of absent that were found, and the list of sizes, if there is one
 abbrev pub HasAbsentFiles : List Row → AbsentFiles → Type 0

@@ -1,7 +1,7 @@
 //! The options of the command line.
 ghost use Rattle.std.specs.Prelude.{◌≡◌, IfOk};
 ghost use Rattle.clap.specs.Words.{Shape};
-ghost use Rattle.crp_words.specs.Commands.{IsArg, IsCommand, beam_rule, budget_rule, chains_rule, deepen_rule, first_rule, flag_rule, number_rule, optional_number_rule, optional_rule, progress_rule, quiet_rule, repeated_rule, seconds_rule, split_rule, stop_rule, strong_rule, text_rule, thin_rule, total_seconds_rule, with_after, with_bays, with_orders, with_outputs, with_page, with_partial, with_search, with_searches, with_size, with_summary, with_ways, workers_rule};
+ghost use Rattle.crp_words.specs.Commands.{IsArg, IsCommand, beam_rule, budget_rule, chains_rule, deepen_rule, first_rule, flag_rule, json_rule, number_rule, optional_number_rule, optional_rule, progress_rule, quiet_rule, repeated_rule, seconds_rule, split_rule, stop_rule, strong_rule, text_rule, thin_rule, total_seconds_rule, with_after, with_bays, with_orders, with_outputs, with_page, with_partial, with_search, with_searches, with_size, with_summary, with_ways, workers_rule};
 
 use clap::{Arg, ArgAction, Command, value_parser};
 use std::alloc::{AllocError, Global};
@@ -314,6 +314,16 @@ fn progress<'a>(alloc: Global) -> Arg<'a>
     )
 }
 
+fn json<'a>(alloc: Global) -> Arg<'a>
+    ensures { IsArg json_rule result }
+{
+    flag(
+        alloc,
+        "json",
+        "Print the report as JSON Lines, one object for each bay",
+    )
+}
+
 // A command with what is written.
 pub(crate) fn with_outputs<'a>(
     alloc: Global,
@@ -337,7 +347,8 @@ pub(crate) fn with_outputs<'a>(
         .arg(cert)?
         .arg(after)?
         .arg(quiet(alloc))?
-        .arg(progress(alloc))
+        .arg(progress(alloc))?
+        .arg(json(alloc))
 }
 
 // A command with the page of what is followed.

@@ -127,6 +127,7 @@ fn solve_of<'a>(alloc: Global, matches: &ArgMatches<'a>) -> Result<Job<'a>, Usag
         cert: matches.get_str("cert"),
         after: matches.get_str("after"),
         stop: stop_of(matches),
+        json: is_given(matches, "json"),
     };
     Ok(Job::Solve {
         files,

@@ -36,7 +36,7 @@ def run(
     program: str = "crp",
     **options: Union[Value, bool, Sequence[Value]],
 ) -> Run:
-    """Runs `crp solve` over a yard list and a load message. `program` is the path of the program. The options are those of `crp solve`:
+    """Runs `crp solve` over a yard list and a load message. `program` is the path of the program. The options are those of `crp solve`, but for `--json`:
     `budget=1000` is `--budget 1000`, `total_seconds=2.5` is `--total-seconds 2.5`, `first=True` is `--first`, and a list is given word by
     word: `bay=["A 1", "B 7"]`. Raises Failed where no whole report was written."""
     words = [program, "solve", os.fspath(yard), os.fspath(movins)]

@@ -4,5 +4,5 @@ use Rattle.crp_cert.proofs.writing.text_under.Goals as goal
 
 pub returns : goal.returns
 returns c =
-    text_joined c.args.bay.now c.args.problem.now c.args.cert.now c.args.claim (option_copied c.args.plan) c.version_under-version.result c.parts.result.now c.parts-2.result.now c.parts-3.result.now c.new-text.result.items c.push_head.new.text.items c.push_parts.new.text.items c.push_number.new.text.items
-    c.version_under-version.ensures c.parts.ensures.value c.parts-2.ensures.value c.parts-3.ensures.value c.new-text.ensures.items c.in_ok-push_head.ensures c.in_ok-push_parts.ensures c.in_ok-push_number.ensures
+    text_joined c.args.bay.now c.args.problem.now c.args.cert.now c.args.claim (option_copied c.args.plan) c.parts.result.now c.new-text.result.items c.push_head.new.text.items c.push_parts.new.text.items c.push_end.new.text.items
+    c.parts.ensures.value c.new-text.ensures.items c.in_ok-push_head.ensures c.in_ok-push_parts.ensures c.in_ok-push_end.ensures

@@ -11,4 +11,4 @@ returns-clause-table c =
     let sorted = λ (s : ShipOrder) (l : List FollowedBay). by_turns (length s.sequence) (records_of s.sequence s.orders (map bay_followed l)) in
     c.in_ok-text_of.ensures ∙ ap (λ l. text_of (map recorded l)) c.deref-3.ensures.value
     ∙ ap text_of (c.in_ok-moves.ensures ∙ ap (λ s. sorted s c.deref-2.result.now) c.in_ok-ship.ensures
-    ∙ ap (sorted (record { sequence = c.args.sequence.now; orders = c.args.orders.now.list })) c.deref-2.ensures.value)
+    ∙ ap (sorted (record { sequence = c.args.sequence.now; orders = c.args.orders.now.list; heading = c.args.orders.now.heading })) c.deref-2.ensures.value)

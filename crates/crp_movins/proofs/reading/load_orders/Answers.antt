@@ -8,6 +8,7 @@ segments-init c = (
   omega arith,
   faults-start c.args.segments.now c.args.loading.now,
   c.start-standing.ensures c.args.segments.now c.args.loading.now,
+  c.start-headed.ensures c.args.segments.now c.args.loading.now,
   rw c.new-orders.ensures (sym (orders-start c.args.segments.now c.args.loading.now)),
 )
 

@@ -20,4 +20,4 @@ returns c =
       c.common-heights.ensures.value,
       c.sizes.ensures.value,
     )
-    (regroup4 [] (page_head yard.sizes.common) (paragraph (length yard.bays) c.args.numbers bays) (table bays) (page_key yard.sizes.common))
+    (regroup4 [] (page_head yard.sizes.common c.args.ship.now) (paragraph (length yard.bays) c.args.numbers bays) (table bays) (page_key yard.sizes.common))

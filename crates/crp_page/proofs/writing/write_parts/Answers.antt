@@ -34,14 +34,14 @@ write_sections-requires-clause-left g c =
 pub returns-in_err-write_made : goal.returns-in_err-write_made
 returns-in_err-write_made g c =
     let p = err_from_is_err_and c.from_residual.result c.from_residual.ensures.1 in
-    let front = page_front c.args.yard.now c.args.numbers (map bay_followed c.args.followed.now.bays.items) in
+    let front = page_front c.args.yard.now c.args.numbers c.args.ship.now (map bay_followed c.args.followed.now.bays.items) in
     rw (p.1, p.2) (stops_before front _ _ _ _ (c.in_err-write_made.ensures.wrote front c.page_front.ensures))
 
 pub returns-in_err-write_made-2 : goal.returns-in_err-write_made-2
 returns-in_err-write_made-2 g c =
     let p = err_from_is_err_and c.from_residual-in_err-write_made-2.result c.from_residual-in_err-write_made-2.ensures.1 in
     let bays = c.args.followed.now.bays.items in
-    let front = page_front c.args.yard.now c.args.numbers (map bay_followed bays) in
+    let front = page_front c.args.yard.now c.args.numbers c.args.ship.now (map bay_followed bays) in
     let turns = turns_part c.args.ship.now (map bay_followed bays) in
     let made = subst (λ (l : List FollowedBay). IfOk c.turns_part.result (λ text. text.items ≡ turns_part c.args.ship.now (map bay_followed l))) c.deref-bays.ensures.value c.turns_part.ensures in
     rw (p.1, p.2) (stops_behind front _ _ _ _ _ (c.in_ok-write_made.ensures.wrote front c.page_front.ensures) (stops_before turns _ _ _ _ (c.in_err-write_made-2.ensures.wrote turns made)))
@@ -50,7 +50,7 @@ pub returns-in_err-write_sections : goal.returns-in_err-write_sections
 returns-in_err-write_sections g c =
     let p = err_from_is_err_and c.from_residual-in_err-write_sections.result c.from_residual-in_err-write_sections.ensures.1 in
     let bays = c.args.followed.now.bays.items in
-    let front = page_front c.args.yard.now c.args.numbers (map bay_followed bays) in
+    let front = page_front c.args.yard.now c.args.numbers c.args.ship.now (map bay_followed bays) in
     let turns = turns_part c.args.ship.now (map bay_followed bays) in
     let made = subst (λ (l : List FollowedBay). IfOk c.turns_part.result (λ text. text.items ≡ turns_part c.args.ship.now (map bay_followed l))) c.deref-bays.ensures.value c.turns_part.ensures in
     let texts = λ (sizes : YardSizes) (l : List FollowedBay). numbered_text (section sizes c.args.ship.now) 1 (map bay_followed l) in
@@ -61,7 +61,7 @@ returns-in_err-write_sections g c =
 pub returns : goal.returns
 returns g c =
     let bays = c.args.followed.now.bays.items in
-    let front = page_front c.args.yard.now c.args.numbers (map bay_followed bays) in
+    let front = page_front c.args.yard.now c.args.numbers c.args.ship.now (map bay_followed bays) in
     let turns = turns_part c.args.ship.now (map bay_followed bays) in
     let made = subst (λ (l : List FollowedBay). IfOk c.turns_part.result (λ text. text.items ≡ turns_part c.args.ship.now (map bay_followed l))) c.deref-bays.ensures.value c.turns_part.ensures in
     let texts = λ (sizes : YardSizes) (l : List FollowedBay). numbered_text (section sizes c.args.ship.now) 1 (map bay_followed l) in

@@ -42,8 +42,9 @@ returns-clause-ok c = (
     sym (first_value-rows (found_of c.args.matches.now) (codes "after")) ∙ sym c.get_str-3.ensures,
     sym (first_value-rows (found_of c.args.matches.now) (codes "sizes")) ∙ sym c.get_str.ensures,
     c.stop_of.ensures,
+    c.is_given.ensures,
   ),
   c.in_ok-settings.ensures.ok,
-  c.is_given.ensures,
   c.is_given-2.ensures,
+  c.is_given-3.ensures,
 )

@@ -1,0 +1,93 @@
+//! The text of a certificate, the lines of whose parts are written by several workers.
+ghost use Rattle.std.specs.Prelude.{◌≡◌, ◌≤◌, ◌++◌, length, IfOk};
+ghost use Rattle.std.specs.List.{flat_map};
+ghost use Rattle.std.specs.Option.{option_copied};
+ghost use Rattle.std.specs.Thread.{IsSync};
+ghost use Rattle.crp_tree.specs.Parts.{part_of};
+ghost use Rattle.crp_cert.specs.Script.{part_line};
+ghost use Rattle.crp_cert.specs.Writing.{text_under};
+
+use crp_cert::{Claim, push_end, push_head, push_parts};
+use crp_plan::{BayName, Plan, Problem};
+use crp_tree::{Cert, Part};
+use std::alloc::{AllocError, Global};
+use std::thread;
+use std::thread::Threads;
+
+// No thread is started for parts that have fewer symbols.
+const LEAST: usize = 1 << 16;
+
+// How many symbols a part has.
+fn symbols_of(part: &Part) -> usize {
+    part.tree().symbols().kinds().len()
+}
+
+// How many symbols parts have, one after the other, down to where there are so many; and behind how many parts that is.
+fn reach(parts: &[Part], most: usize) -> (usize, usize)
+    ensures { result.1 ≤ length parts.now }
+{
+    let mut symbols: usize = 0;
+    for i in 0..parts.len() {
+        if symbols >= most {
+            return (symbols, i);
+        }
+        symbols = symbols.saturating_add(symbols_of(&parts[i]));
+    }
+    (symbols, parts.len())
+}
+
+// Adds the lines of parts to a text, by so many workers.
+#[tactic(auto, using(std::proofs::lemmas::Grind::common_steps))]
+fn with_parts<T: Threads + Sync>(
+    rt: &T,
+    alloc: Global,
+    workers: usize,
+    mut text: Vec<u8>,
+    parts: &[Part],
+) -> Result<Vec<u8>, AllocError>
+    ensures { IfOk result (λ all. all.items ≡ text.items ++ flat_map (λ part. part_line (part_of part)) parts.now) }
+{
+    let (symbols, _all) = reach(parts, usize::MAX);
+    if workers < 2 || parts.len() < 2 || symbols < LEAST {
+        push_parts(&mut text, parts)?;
+        return Ok(text);
+    }
+    let others = workers / 2;
+    let own = workers - others;
+    let (_own, middle) = reach(parts, (symbols / workers).saturating_mul(own));
+    let (left, right) = parts.split_at(middle);
+    let (behind, before) = thread::join(
+        rt,
+        move || -> Result<Vec<u8>, AllocError>
+            requires { IsSync T.row }
+            ensures { IfOk result (λ all. all.items ≡ flat_map (λ part. part_line (part_of part)) right.entry.now) }
+        { with_parts(rt, alloc, others, Vec::new(alloc), right) },
+        move || -> Result<Vec<u8>, AllocError>
+            requires { IsSync T.row }
+            ensures { IfOk result (λ all. all.items ≡ text.items ++ flat_map (λ part. part_line (part_of part)) left.entry.now) }
+        { with_parts(rt, alloc, own, text, left) },
+    );
+    let mut all = before?;
+    all.extend_from_slice(&behind?)?;
+    Ok(all)
+}
+
+/// The text of a certificate of a problem under a claim, with a plan or none. So many workers write it, one of them alone where it is short.
+pub(crate) fn text_by<T: Threads + Sync>(
+    rt: &T,
+    alloc: Global,
+    workers: usize,
+    bay: &BayName,
+    problem: &Problem,
+    cert: &Cert,
+    claim: Claim,
+    plan: Option<&Plan>,
+) -> Result<Vec<u8>, AllocError>
+    ensures { IfOk result (λ text. text.items ≡ text_under bay.now problem.now cert.now claim (option_copied plan.entry)) }
+{
+    let mut text = Vec::new(alloc);
+    push_head(&mut text, bay, problem, cert, claim, plan)?;
+    let mut lines = with_parts(rt, alloc, workers, text, cert.parts())?;
+    push_end(&mut lines, cert)?;
+    Ok(lines)
+}
