@@ -1,6 +1,7 @@
 //! The words that the program is given.
 
 use crate::program::texts_of;
+use crp_json::Printed;
 use crp_words::{Mistake, Usage, json_head};
 use std::alloc::Global;
 use std::{env, io};
@@ -25,8 +26,11 @@ fn usage_without_words(alloc: Global, error: &io::Error) -> Usage {
     }
 }
 
-// The first line of JSON Lines, where the words ask for these.
-fn head_of(alloc: Global, words: &[String]) -> Result<Option<Vec<u8>>, Usage> {
+/// What is printed, and the first line of JSON Lines, where the words ask for these.
+pub type Head = (Printed, Option<Vec<u8>>);
+
+// What the words print, and the first line of JSON Lines, where they ask for these.
+fn head_of(alloc: Global, words: &[String]) -> Result<Head, Usage> {
     match texts_of(alloc, words) {
         Ok(texts) => json_head(alloc, &texts),
         Err(_) => Err(Usage::Memory),
@@ -38,15 +42,15 @@ fn words_of(rt: &HostRuntime) -> Result<Vec<String>, Usage> {
     words_after_name(rt).map_err(|error| usage_without_words(rt.alloc(), &error))
 }
 
-/// The words after the program's name, with the first line of JSON Lines, where they ask for these; or why they were not had, or ask for
-/// nothing.
-pub fn words_and_head(rt: &HostRuntime) -> (Result<Vec<String>, Usage>, Option<Vec<u8>>) {
+/// The words after the program's name, with what they print and the first line of JSON Lines, where they ask for these; or why they were not
+/// had, or ask for nothing.
+pub fn words_and_head(rt: &HostRuntime) -> (Result<Vec<String>, Usage>, Head) {
     let words = match words_of(rt) {
         Ok(words) => words,
-        Err(usage) => return (Err(usage), None),
+        Err(usage) => return (Err(usage), (Printed::Report, None)),
     };
     match head_of(rt.alloc(), &words) {
         Ok(head) => (Ok(words), head),
-        Err(usage) => (Err(usage), None),
+        Err(usage) => (Err(usage), (Printed::Report, None)),
     }
 }

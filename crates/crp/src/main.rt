@@ -34,8 +34,9 @@ fn main(rt: HostRuntime) -> ExitCode {
         writer: rt.stdout(),
         terminal: rt.stdout().is_terminal().then_some(&terminal),
     };
-    let (words, head) = words_and_head(&rt);
-    let out = JsonLines::<_, Brand>::new(rt.alloc(), Counted::new(Piped::new(cleared)), head);
+    let (words, (printed, head)) = words_and_head(&rt);
+    let piped = Counted::new(Piped::new(cleared));
+    let out = JsonLines::<_, Brand>::new(rt.alloc(), piped, printed, head);
     let mut streams = streams_of(input, out, Counted::new(rt.stderr()));
     let status = program::run(
         &rt,

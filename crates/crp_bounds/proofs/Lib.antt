@@ -12,5 +12,6 @@ pub mod Undone
 pub mod Cutting
 pub mod Tallying
 pub mod Scanned
+pub mod Clear
 pub mod Remaining
 pub mod Turns

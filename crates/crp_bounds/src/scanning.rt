@@ -55,6 +55,7 @@ fn cut_at_rank(rank: u8, most: u8, stack: &[u8]) -> Cut
     requires once { count_by (λ y. y == rank) stack.now ≤ 1 }
     ensures below { take result.kept stack.now ≡ below rank stack.now }
     ensures lower { result.kept < length stack.now }
+    ensures found { slice_index stack.now result.kept ≡ rank }
     ensures more { result.more ≡ count_by (nat_lt most) (above rank stack.now) }
     ensures few { result.more ≤ 8 }
 {
@@ -82,8 +83,10 @@ fn if_reached(count: u32, need: u32) -> Option<u32>
 /// How many containers would block again, rank by rank, where those that block now are so many, or as many of them as are
 /// `enough`; `None` exactly where they are fewer than `need`.
 ///
-/// Each counts once at most, and only one that blocks: what stands above the next rank in its stack all blocks, and is gone
+/// A rank still stands at its turn exactly where it stands above no lower one, so that it is the least at or below it. Each container
+/// counts once at most, and only one that blocks: what stands above the next rank in its stack all blocks, and is gone
 /// once the stack is cut off. So there are never more than have counted and still block.
+#[inline(always)]
 pub fn again_reaching(
     position: &Position,
     leasts: &[u8; 97],
@@ -109,13 +112,13 @@ pub fn again_reaching(
     let mut again: u32 = 0;
     let mut still = blocking;
     for rank in position.next()..ordered + 1 {
-        let row = position.row_of(rank);
-        let index = row as usize - 1;
-        let stack = &position.stack(row)[..left[index] as usize];
-        if least_of(ordered, leasts, stack) == rank {
+        if leasts[rank as usize] == rank {
             if most == 255 {
                 return if_reached(again, need);
             }
+            let row = position.row_of(rank);
+            let index = row as usize - 1;
+            let stack = &position.stack(row)[..left[index] as usize];
             let Cut { more, kept } = cut_at_rank(rank, most, stack);
             again += more;
             if enough <= again {

@@ -24,6 +24,7 @@ use Rattle.crp_commands.specs.Headlines.{KeepsHeadline, KeepsHeadlineSoFar}
 use Rattle.crp_commands.specs.Performing.{JobSeen, ReportsFile, ReportsOverFiles, FailsOverFiles, call_of}
 use Rattle.crp_commands.specs.Sized.{AsSized, IsDone, IsFailed, behind}
 use Rattle.crp_commands.specs.Solving.{AreTwo, file_of}
+use Rattle.crp_separated.specs.Inputs.{comma_list_of}
 use Rattle.crp_callers.specs.CommandReports.{IsReportOf, IsSizedList}
 use Rattle.crp_callers.proofs.Reporting.{command_reported}
 use Rattle.crp_callers.proofs.WrittenTexts.{IsFilled, got}
@@ -47,7 +48,7 @@ Failed f j seen = FailsOverFiles j seen f × KeepsHeadlineSoFar j seen
 pub record IsRunSized (names : RunFiles) (chosen : RunChosen) (quiet progress : Bool) (seen : JobSeen) (Holds : Job → JobSeen → Type 0) (name : Option (List ℕ)) : Type 0 where
   pub sizes : YardSizes
   pub failures : ℕ
-  pub sized : (list : List ℕ) (yard : Inventory) → IsYardListOf sizes list yard → IsSizedList seen.files.known name chosen.input.sizes list yard
+  pub sized : (list : List ℕ) (yard : Inventory) → IsYardListOf sizes list yard → IsSizedList seen.files.known names.separator name chosen.input.sizes list yard
   pub holds : Holds (with_sizes sizes (Solve names chosen quiet progress)) (behind failures seen)
 
 pub as_run : (names : RunFiles) (chosen : RunChosen) (quiet progress : Bool) (seen : JobSeen) (Holds : Job → JobSeen → Type 0)
@@ -56,7 +57,7 @@ as_run names chosen quiet progress seen Holds = by_name names.sizes
   where
     by_name : (o : Option (Bor (List ℕ)))
         → MatchOption {T = List ℕ × InputChosen} (option_map (λ name. (name.now, chosen.input)) o) (Holds (Solve names chosen quiet progress) seen) (λ list. (text : List ℕ) × (sizes : YardSizes) × (n : ℕ)
-        × (failures : ℕ) × IsTextOf (seen.files.known.given list.0) text × IsSizesListOf list.1.sizes.common text sizes × (n ≤ most_interruptions)
+        × (failures : ℕ) × IsTextOf (comma_list_of names.separator (seen.files.known.given list.0)) text × IsSizesListOf list.1.sizes.common text sizes × (n ≤ most_interruptions)
         × CountsMore n seen.files.before failures × Holds (with_sizes sizes (Solve names chosen quiet progress)) (behind failures seen))
         → IsRunSized names chosen quiet progress seen Holds (option_map (λ name. name.now) o)
     by_name None holds = record { sizes = chosen.input.sizes; failures = seen.files.before; sized = λ list yard is. is; holds = holds }
@@ -65,8 +66,8 @@ as_run names chosen quiet progress seen Holds = by_name names.sizes
 
 -- the report of a run that was made of the files, on a sink that was empty
 abbrev pub IsReported : RunFiles → RunChosen → JobSeen → List ℕ → Type 0
-IsReported names chosen seen lines = (made : Made) × IsHeadline (handed_of made) × (lines ≡ made.report) × IsTextOf (seen.files.known.given names.yard.now) made.list
-    × IsSizedList seen.files.known (option_map (λ name. name.now) names.sizes) chosen.input.sizes made.list made.yard
+IsReported names chosen seen lines = (made : Made) × IsHeadline (handed_of made) × (lines ≡ made.report) × IsTextOf (comma_list_of names.separator (seen.files.known.given names.yard.now)) made.list
+    × IsSizedList seen.files.known names.separator (option_map (λ name. name.now) names.sizes) chosen.input.sizes made.list made.yard
 
 pub run_reported : (names : RunFiles) (chosen : RunChosen) (quiet progress : Bool) (seen : JobSeen) (ended : Status) (lines : List ℕ) → IsFilled seen.out lines
     → IsDone (Solve names chosen quiet progress) seen ended → IsReported names chosen seen lines
@@ -83,8 +84,8 @@ run_reported names chosen quiet progress seen ended lines filled done =
 -- a front of that report, or nothing
 abbrev pub IsReportedSoFar : RunFiles → RunChosen → JobSeen → List ℕ → Type 0
 IsReportedSoFar names chosen seen lines = (lines ≡ []) ⊎ ((made : Made) × IsHeadline (handed_of made) × ((n : ℕ) × (lines ≡ take n made.report))
-    × IsTextOf (seen.files.known.given names.yard.now) made.list
-    × IsSizedList seen.files.known (option_map (λ name. name.now) names.sizes) chosen.input.sizes made.list made.yard)
+    × IsTextOf (comma_list_of names.separator (seen.files.known.given names.yard.now)) made.list
+    × IsSizedList seen.files.known names.separator (option_map (λ name. name.now) names.sizes) chosen.input.sizes made.list made.yard)
 
 nothing_reported : (seen : JobSeen) (lines : List ℕ) → IsFilled seen.out lines → GetsNothing seen.out → lines ≡ []
 nothing_reported seen lines filled nothing =

@@ -38,8 +38,8 @@ report_written IsInput IsReport bytes new s reads over (text, report, input, is,
 pub command_reported : (command : FileCommand) (ended : Status) (bytes new : List ℕ) (s : CallSeen) → IsOverBytes s bytes new
     → Performs command ended s → IsReportOf command bytes new
 command_reported Replay ended bytes new s over done = report_written IsTextOf IsReplay bytes new s (λ known text is. is) over done.1
-command_reported (Bound chains) ended bytes new s over done = report_written IsTextOf (IsBound chains) bytes new s (λ known text is. is) over done.1
-command_reported (Check any_size workers) ended bytes new s over done = report_written (IsTextWithin (most_bytes any_size)) IsCheck bytes new s (λ known text is. is.1) over done.1
+command_reported (Bound chains json) ended bytes new s over done = report_written IsTextOf (IsBound chains) bytes new s (λ known text is. is) over done.1
+command_reported (Check any_size workers json) ended bytes new s over done = report_written (IsTextWithin (most_bytes any_size)) IsCheck bytes new s (λ known text is. is.1) over done.1
 command_reported (Prove search) ended bytes new s over done = (ended, report_written IsTextOf (IsProof search ended) bytes new s (λ known text is. is) over done)
 command_reported Rewrite ended bytes new s over done = report_written IsTextOf IsRewritten bytes new s (λ known text is. is) over done.1
 

@@ -15,7 +15,7 @@ use Rattle.crp_report.specs.declared.status.Status.{Status}
 use Rattle.crp_report.specs.Runs.{SourceSeen, SinkSeen}
 use Rattle.crp_solve.specs.declared.settings.TheConstants.{MAX_BUDGET, MAX_BEAM, MAX_THIN}
 use Rattle.crp_jobs.specs.declared.job.Job.{Job}
-use Rattle.crp_jobs.specs.declared.job.Job.TheVariants.{Absent, OneFile, Audit, Follow, Solve}
+use Rattle.crp_jobs.specs.declared.job.Job.TheVariants.{Absent, OneFile, Audit, Follow, Compare, Solve}
 use Rattle.crp_jobs.specs.declared.job.FileCommand.TheVariants as command
 use Rattle.crp_jobs.specs.declared.outcome.ToolFault.{ToolFault}
 use Rattle.crp_jobs.specs.declared.outcome.ToolFault.TheVariants as fault
@@ -51,8 +51,10 @@ never_zero fault.TooLarge e = absurd (omega arith)
 never_zero (fault.TooLargeOf which) e = absurd (omega arith)
 never_zero (fault.Followed f) e = absurd (omega arith)
 never_zero (fault.Loaded f) e = absurd (omega arith)
+never_zero (fault.Second f) e = absurd (omega arith)
 never_zero (fault.Sizes f) e = absurd (omega arith)
 never_zero fault.ReadSizes e = absurd (omega arith)
+never_zero fault.ReadSecond e = absurd (omega arith)
 never_zero fault.Memory e = absurd (omega arith)
 never_zero fault.Read e = absurd (omega arith)
 never_zero (fault.ReadOf which) e = absurd (omega arith)
@@ -127,19 +129,20 @@ check_is_free = refl
 check_is_done : (j : Job) → WordsAsk check_words j → (seen : JobSeen) (ended : Status) (bytes lines : List ℕ) → seen.input.given ≡ Some bytes
     → seen.out.held ≡ Some [] → seen.out.holds ≡ Some lines → IsDone j seen ended → IsCheck bytes lines
 unfolding walk_fault defaults_fault flags_fault walked bundle_met
-check_is_done (OneFile file (command.Check any_size workers) stop) (free, (name, is, named)) seen ended bytes lines given held holds ((source, inl (dash, from), (done, few)), kept) =
-    command_reported (command.Check any_size workers) ended bytes lines (call_of source seen.out)
+check_is_done (OneFile file (command.Check any_size workers json) stop) (free, (name, is, named)) seen ended bytes lines given held holds ((source, inl (dash, from), (done, few)), kept) =
+    command_reported (command.Check any_size workers json) ended bytes lines (call_of source seen.out)
     (record { given = ap (λ (s : SourceSeen). s.given) from.is ∙ given; held = held; holds = holds }) done
-check_is_done (OneFile file (command.Check any_size workers) stop) (free, (name, is, named)) seen ended bytes lines given held holds ((source, inr (other, from), (done, few)), kept) =
+check_is_done (OneFile file (command.Check any_size workers json) stop) (free, (name, is, named)) seen ended bytes lines given held holds ((source, inr (other, from), (done, few)), kept) =
     absurd (other (sym (one_text _ _ is)))
 check_is_done (OneFile file command.Replay stop) (free, (name, is, named)) seen ended bytes lines given held holds done = absurd (other_letter 99 114 _ _ refl name)
 check_is_done (OneFile file command.Rewrite stop) (free, (name, is, named)) seen ended bytes lines given held holds done = absurd (other_letter 99 114 _ _ refl name)
-check_is_done (OneFile file (command.Bound chains) stop) (free, (name, is, named)) seen ended bytes lines given held holds done = absurd (other_letter 99 98 _ _ refl name.0)
+check_is_done (OneFile file (command.Bound chains json) stop) (free, (name, is, named)) seen ended bytes lines given held holds done = absurd (other_letter 99 98 _ _ refl name.0)
 check_is_done (OneFile file (command.Prove chosen) stop) (free, (name, is, named)) seen ended bytes lines given held holds done =
     absurd (other_letter 99 112 _ _ refl name.0)
 check_is_done (Absent names settings) (free, (name, size, files, has)) seen ended bytes lines given held holds done = absurd (other_letter 99 97 _ _ refl name)
 check_is_done (Audit names settings) (free, (name, size, files, has)) seen ended bytes lines given held holds done = absurd (other_letter 99 97 _ _ refl name)
-check_is_done (Follow names settings) (free, (name, clear, files, has)) seen ended bytes lines given held holds done = absurd (other_letter 99 102 _ _ refl name)
+check_is_done (Follow names settings) (free, (name, clear, one, files, has)) seen ended bytes lines given held holds done = absurd (other_letter 99 102 _ _ refl name)
+check_is_done (Compare names settings) (free, (name, clear, files, has)) seen ended bytes lines given held holds done = absurd (other_letter 99 102 _ _ refl name)
 check_is_done (Solve names settings quiet progress) (free, (name, size, twice, files, has, a, b)) seen ended bytes lines given held holds done =
     absurd (other_letter 99 115 _ _ refl name)
 
@@ -193,8 +196,10 @@ shared_fails names chosen seen status (fault.Checked number refused) shared is e
 shared_fails names chosen seen status (fault.Audited f) shared is e = absurd is
 shared_fails names chosen seen status (fault.Followed f) shared is e = absurd is
 shared_fails names chosen seen status (fault.Loaded f) shared is e = absurd is
+shared_fails names chosen seen status (fault.Second f) shared is e = absurd is
 shared_fails names chosen seen status (fault.Sizes f) shared is e = absurd is
 shared_fails names chosen seen status fault.ReadSizes shared is e = absurd is
+shared_fails names chosen seen status fault.ReadSecond shared is e = absurd is
 shared_fails names chosen seen status (fault.ReadOf which) shared is e = absurd is
 shared_fails names chosen seen status (fault.TooLargeOf which) shared is e = absurd is
 shared_fails names chosen seen status fault.Read shared is e = absurd is
@@ -225,12 +230,13 @@ job_is_linked seen errors status one (Solve names settings quiet progress) (free
     ]
 job_is_linked seen errors status one (OneFile file command.Replay stop) (free, (name, is, named)) ends = absurd (other_letter 115 114 _ _ refl name)
 job_is_linked seen errors status one (OneFile file command.Rewrite stop) (free, (name, is, named)) ends = absurd (other_letter 115 114 _ _ refl name)
-job_is_linked seen errors status one (OneFile file (command.Bound chains) stop) (free, (name, is, named)) ends = absurd (other_letter 115 98 _ _ refl name.0)
-job_is_linked seen errors status one (OneFile file (command.Check any_size workers) stop) (free, (name, is, named)) ends = absurd (other_letter 115 99 _ _ refl name.0)
+job_is_linked seen errors status one (OneFile file (command.Bound chains json) stop) (free, (name, is, named)) ends = absurd (other_letter 115 98 _ _ refl name.0)
+job_is_linked seen errors status one (OneFile file (command.Check any_size workers json) stop) (free, (name, is, named)) ends = absurd (other_letter 115 99 _ _ refl name.0)
 job_is_linked seen errors status one (OneFile file (command.Prove chosen) stop) (free, (name, is, named)) ends = absurd (other_letter 115 112 _ _ refl name.0)
 job_is_linked seen errors status one (Absent names settings) (free, (name, size, files, has)) ends = absurd (other_letter 115 97 _ _ refl name)
 job_is_linked seen errors status one (Audit names settings) (free, (name, size, files, has)) ends = absurd (other_letter 115 97 _ _ refl name)
-job_is_linked seen errors status one (Follow names settings) (free, (name, clear, files, has)) ends = absurd (other_letter 115 102 _ _ refl name)
+job_is_linked seen errors status one (Follow names settings) (free, (name, clear, alone, files, has)) ends = absurd (other_letter 115 102 _ _ refl name)
+job_is_linked seen errors status one (Compare names settings) (free, (name, clear, files, has)) ends = absurd (other_letter 115 102 _ _ refl name)
 
 two_four_or_five : (status : ℕ) → (status ≡ 2) ⊎ (status ≡ 4) → (status ≡ 2) ⊎ ((status ≡ 4) ⊎ (status ≡ 5))
 two_four_or_five status (inl two) = inl two
@@ -330,11 +336,12 @@ limits_ask (Solve names settings quiet progress) (free, (name, size, twice, file
     sizes_at _ settings.input.sizes (record { rows = refl; tiers = refl; heights = refl; workers = refl; split = refl; beam = refl; thin = refl; budget = refl; bays = refl; seconds = refl; total = refl }) has.1.0
 limits_ask (OneFile file command.Replay stop) (free, (name, is, named)) = absurd (other_letter 115 114 _ _ refl name)
 limits_ask (OneFile file command.Rewrite stop) (free, (name, is, named)) = absurd (other_letter 115 114 _ _ refl name)
-limits_ask (OneFile file (command.Bound chains) stop) (free, (name, is, named)) = absurd (other_letter 115 98 _ _ refl name.0)
-limits_ask (OneFile file (command.Check any_size workers) stop) (free, (name, is, named)) = absurd (other_letter 115 99 _ _ refl name.0)
+limits_ask (OneFile file (command.Bound chains json) stop) (free, (name, is, named)) = absurd (other_letter 115 98 _ _ refl name.0)
+limits_ask (OneFile file (command.Check any_size workers json) stop) (free, (name, is, named)) = absurd (other_letter 115 99 _ _ refl name.0)
 limits_ask (OneFile file (command.Prove chosen) stop) (free, (name, is, named)) = absurd (other_letter 115 112 _ _ refl name.0)
 limits_ask (Audit names settings) (free, (name, size, files, has)) = absurd (other_letter 115 97 _ _ refl name)
-limits_ask (Follow names settings) (free, (name, clear, files, has)) = absurd (other_letter 115 102 _ _ refl name)
+limits_ask (Follow names settings) (free, (name, clear, one, files, has)) = absurd (other_letter 115 102 _ _ refl name)
+limits_ask (Compare names settings) (free, (name, clear, files, has)) = absurd (other_letter 115 102 _ _ refl name)
 limits_ask (Absent names settings) (free, (name, size, files, has)) = absurd (other_letter 115 97 _ _ refl name)
 
 -- the rows of a command, if there is one
@@ -387,9 +394,10 @@ strong_asks (OneFile file (command.Prove settings) stop) (free, ((name, ((worker
     (strong_beam _ at settings.beam beam, strong_thin _ at settings.thin thin, deepen.1 (inr at.strong), chains.1 (inr at.strong))
 strong_asks (OneFile file command.Replay stop) (free, (name, is, named)) = absurd (other_letter 112 114 _ _ refl name)
 strong_asks (OneFile file command.Rewrite stop) (free, (name, is, named)) = absurd (other_letter 112 114 _ _ refl name)
-strong_asks (OneFile file (command.Bound chains) stop) (free, (name, is, named)) = absurd (other_letter 112 98 _ _ refl name.0)
-strong_asks (OneFile file (command.Check any_size workers) stop) (free, (name, is, named)) = absurd (other_letter 112 99 _ _ refl name.0)
+strong_asks (OneFile file (command.Bound chains json) stop) (free, (name, is, named)) = absurd (other_letter 112 98 _ _ refl name.0)
+strong_asks (OneFile file (command.Check any_size workers json) stop) (free, (name, is, named)) = absurd (other_letter 112 99 _ _ refl name.0)
 strong_asks (Absent names settings) (free, (name, size, files, has)) = absurd (other_letter 112 97 _ _ refl name)
 strong_asks (Audit names settings) (free, (name, size, files, has)) = absurd (other_letter 112 97 _ _ refl name)
-strong_asks (Follow names settings) (free, (name, clear, files, has)) = absurd (other_letter 112 102 _ _ refl name)
+strong_asks (Follow names settings) (free, (name, clear, one, files, has)) = absurd (other_letter 112 102 _ _ refl name)
+strong_asks (Compare names settings) (free, (name, clear, files, has)) = absurd (other_letter 112 102 _ _ refl name)
 strong_asks (Solve names settings quiet progress) (free, (name, size, twice, files, has, a, b)) = absurd (other_letter 112 115 _ _ refl name)

@@ -21,7 +21,7 @@ use Rattle.crp_audit.specs.Headline.{Reported, numbers_in, Handed, handed, IsHea
 use Rattle.crp_jobs.specs.declared.outcome.ToolFault.{ToolFault}
 use Rattle.crp_jobs.specs.declared.outcome.ToolFault.TheVariants as fault
 use Rattle.crp_order.specs.Absences.{absent_text}
-use Rattle.crp_commands.specs.Absent.{AbsentSeen, Lists}
+use Rattle.crp_commands.specs.Absent.{AbsentChosen, AbsentSeen, Lists}
 use Rattle.crp_commands.specs.Audit.{AuditChosen, AuditSeen, Audits, AuditFailsWith, IsHandedIn, IsInputOf, audit_text}
 use Rattle.crp_commands.specs.Partial.{IsReportIn, part_of}
 use Rattle.crp_commands.specs.Follow.{FollowChosen, FollowSeen, Follows, IsFollowInput, Ship, WritesTexts, WritesWhole, made_for}
@@ -58,8 +58,12 @@ input_is chosen listing messages list message yard orders sequence e f is = reco
 
 -- ---- `absent`
 
+-- a list of absent containers with commas
+abbrev with_commas : InputChosen → AbsentChosen
+with_commas chosen = record { input = chosen; separator = 44 }
+
 pub absent_listed : (chosen : InputChosen) (s : AbsentSeen) (list message text : List ℕ) → s.yard.given ≡ Some list → s.movins.given ≡ Some message → IsFilled s.out text
-    → Lists chosen s → (yard : Inventory) × (orders : LoadOrders) × IsYardListOf chosen.sizes list yard × AreOrders chosen.loading message orders
+    → Lists (with_commas chosen) s → (yard : Inventory) × (orders : LoadOrders) × IsYardListOf chosen.sizes list yard × AreOrders chosen.loading message orders
     × (text ≡ absent_text yard orders.list)
 absent_listed chosen s list message text e f filled (said, (yard, orders, sequence, input, is), gets) =
     let are = input_is chosen s.yard s.movins list message yard orders sequence e f input in
@@ -137,31 +141,33 @@ pub record AreFollowed (s : FollowSeen) (list message report page left table : L
 -- what the texts of a report are that were written
 whole_texts : (chosen : FollowChosen) (s : FollowSeen) (list message report page left table : List ℕ) (yard : Inventory) (ship : Ship) (said : List ℕ)
     → AreFollowed s list message report page left table → said ≡ report → AreInput chosen.input list message yard ship.0 ship.1
-    → WritesTexts (Some ship) chosen.loaded false yard said s.texts → IsWhole yard ship.0 ship.1 chosen.loaded report page left table
+    → WritesTexts (Some ship) chosen.loaded false 44 yard said s.texts → IsWhole yard ship.0 ship.1 chosen.loaded report page left table
 whole_texts chosen s list message report page left table yard ship said over same input (x, are, writes) =
     let paged = subst (λ (o : Option SinkSeen). WritesWhole x.page o) over.page_wanted writes.0 in
     let listed = subst (λ (o : Option SinkSeen). WritesWhole x.list o) over.list_wanted writes.1 in
-    let behind = are.list (subst (λ (o : Option SinkSeen). IsTrue (is_some o)) (sym over.list_wanted) refl) in record {
+    let (own, behind, same_list) = are.list (subst (λ (o : Option SinkSeen). IsTrue (is_some o)) (sym over.list_wanted) refl) in record {
       numbers = are.numbers;
       bays = are.bays;
       follows = subst (λ (t : List ℕ). IsFollowed yard t are.numbers are.bays) same are.is_loaded.0;
       page_is = got over.pages page _ over.page_got paged ∙ are.page;
-      left_is = subst (IsListBehind yard (made_for (Some ship) chosen.loaded are.bays)) (sym (got over.lists left _ over.list_got listed)) behind;
+      left_is = subst (IsListBehind yard (made_for (Some ship) chosen.loaded are.bays)) (sym (got over.lists left _ over.list_got listed ∙ same_list)) behind;
       table_is = got s.texts.table table _ over.table_got writes.2 ∙ are.table;
     }
 
 whole_for : (chosen : FollowChosen) (s : FollowSeen) (list message report page left table : List ℕ) (yard : Inventory) (ship : Option Ship) (said : List ℕ)
     → (over : AreFollowed s list message report page left table) → said ≡ report → IsFollowInput chosen.input s.yard (Some over.messages) yard ship
-    → WritesTexts ship chosen.loaded false yard said s.texts → IsFollowedWhole chosen.input chosen.loaded list message report page left table
+    → WritesTexts ship chosen.loaded false 44 yard said s.texts → IsFollowedWhole chosen.input chosen.loaded list message report page left table
 whole_for chosen s list message report page left table yard None said over same input writes = absurd input
 whole_for chosen s list message report page left table yard (Some ship) said over same input writes =
     let says = input_is chosen.input s.yard over.messages list message yard ship.0 ship.1 over.list_given over.message_given input in
     (yard, ship.0, ship.1, says, whole_texts chosen s list message report page left table yard ship said over same says writes)
 
-pub followed_whole : (chosen : FollowChosen) (s : FollowSeen) → chosen.partial ≡ false → chosen.summary ≡ false → (list message report page left table : List ℕ) → AreFollowed s list message report page left table
+pub followed_whole : (chosen : FollowChosen) (s : FollowSeen) → chosen.partial ≡ false → chosen.summary ≡ false → chosen.separator ≡ 44 → (list message report page left table : List ℕ) → AreFollowed s list message report page left table
     → Follows chosen s → IsFollowedWhole chosen.input chosen.loaded list message report page left table
-followed_whole chosen s plain moves list message report page left table over (yard, ship, said, given, writes) =
+followed_whole chosen s plain moves commas list message report page left table over (yard, ship, said, given, writes) =
     let (text, bays, is, in_it) = given.report_given in
     let same : said ≡ text = (subst (λ p. IsReportIn p text said bays) plain in_it).0 in
     whole_for chosen s list message report page left table yard ship said over (same ∙ given_is s.report.given report text over.report_given is)
-    (subst (λ (o : Option SourceSeen). IsFollowInput chosen.input s.yard o yard ship) over.asked given.input) (subst (λ (b : Bool). WritesTexts ship chosen.loaded b yard said s.texts) moves writes)
+    (subst (λ (o : Option SourceSeen). IsFollowInput chosen.input s.yard o yard ship) over.asked given.input)
+    (subst (λ (n : ℕ). WritesTexts ship chosen.loaded false n yard said s.texts) commas
+    (subst (λ (b : Bool). WritesTexts ship chosen.loaded b chosen.separator yard said s.texts) moves writes))

@@ -16,6 +16,7 @@ use Rattle.crp_loading.specs.Loading.{load_text}
 use Rattle.crp_page.specs.Page.{page_text}
 use Rattle.crp_page.specs.declared.ordered.OrderNumbers.TheVariants.{Counted}
 use Rattle.crp_report.specs.Chosen.{InputChosen}
+use Rattle.crp_separated.specs.Inputs.{comma_list_of}
 use Rattle.crp_report.specs.Runs.{AreOrders, numbers_of}
 use Rattle.crp_audit.specs.Headline.{Handed, handed}
 use Rattle.crp_jobs.specs.declared.job.FileCommand.{FileCommand}
@@ -31,16 +32,17 @@ use Rattle.crp_commands.specs.Prove.{IsSomeProof}
 -- the report that they are with lines that count its moves
 abbrev pub IsReportOf : FileCommand → List ℕ → List ℕ → Type 0
 IsReportOf Replay bytes text = IsReplay bytes text
-IsReportOf (Bound chains) bytes text = IsBound chains bytes text
-IsReportOf (Check any_size workers) bytes text = IsCheck bytes text
+IsReportOf (Bound chains json) bytes text = IsBound chains bytes text
+IsReportOf (Check any_size workers json) bytes text = IsCheck bytes text
 IsReportOf (Prove search) bytes text = IsSomeProof search bytes text
 IsReportOf Rewrite bytes text = IsRewritten bytes text
 
--- the yard is that of the list, where its bays have the chosen sizes, or where a list of sizes is named those that it has, as far as the bytes of its file are known
-abbrev pub IsSizedList : KnownFiles → Option (List ℕ) → YardSizes → List ℕ → Inventory → Type 0
-IsSizedList known None chosen list yard = IsYardListOf chosen list yard
-IsSizedList known (Some name) chosen list yard =
-    (text : List ℕ) × (sizes : YardSizes) × IsTextOf (known.given name) text × IsSizesListOf chosen.common text sizes × IsYardListOf sizes list yard
+-- the yard is that of the list, where its bays have the chosen sizes, or where a list of sizes is named those that it has, with this byte between its fields, as far
+-- as the bytes of its file are known
+abbrev pub IsSizedList : KnownFiles → ℕ → Option (List ℕ) → YardSizes → List ℕ → Inventory → Type 0
+IsSizedList known separator None chosen list yard = IsYardListOf chosen list yard
+IsSizedList known separator (Some name) chosen list yard =
+    (text : List ℕ) × (sizes : YardSizes) × IsTextOf (comma_list_of separator (known.given name)) text × IsSizesListOf chosen.common text sizes × IsYardListOf sizes list yard
 
 -- the report ends with a line of chains, and no plan has fewer relocations than the number in it
 pub record EndsWithBound (p : Problem) (report : List ℕ) : Type 0 where

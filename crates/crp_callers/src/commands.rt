@@ -123,7 +123,14 @@ pub fn listed_absent(
     let mut yard_from = list;
     let mut orders_from = message;
     let mut out = Received::new(alloc);
-    absent(alloc, &mut yard_from, &mut orders_from, settings, &mut out)?;
+    absent(
+        alloc,
+        &mut yard_from,
+        &mut orders_from,
+        settings,
+        b',',
+        &mut out,
+    )?;
     Ok(out.bytes)
 }
 
@@ -199,6 +206,7 @@ pub fn followed(
         loaded,
         partial: false,
         summary: false,
+        separator: b',',
     };
     follow(
         alloc,

@@ -6,6 +6,7 @@ ghost use Rattle.crp_audit.specs.Headline.{IsHeadline};
 ghost use Rattle.crp_headline.specs.Accepted.{handed_of};
 ghost use Rattle.crp_commands.specs.Solving.{AreTwo};
 ghost use Rattle.crp_memory_files.specs.Memory.{bytes_at, known_in, place_of};
+ghost use Rattle.crp_separated.specs.Inputs.{comma_list_of};
 ghost use Rattle.crp_callers.specs.CommandReports.{IsReportOf, IsSizedList};
 
 use crp_commands::{Streams, Terminal, run_job};
@@ -57,7 +58,8 @@ pub fn report_of_run<T: Threads + Wait + Sync, F: Files, S: Terminal + Sync>(
     terminal: &S,
 ) -> Result<Vec<u8>, ToolFault>
     ensures { IfOk result (λ report. (made : Made) × IsHeadline (handed_of made) × (report.items ≡ made.report)
-        × IsTextOf ((F.known files.old).given names.entry.yard.now) made.list × IsSizedList (F.known files.old) (option_map (λ name. name.now) names.entry.sizes) settings.input.sizes made.list made.yard) }
+        × IsTextOf (comma_list_of names.entry.separator ((F.known files.old).given names.entry.yard.now)) made.list
+        × IsSizedList (F.known files.old) names.entry.separator (option_map (λ name. name.now) names.entry.sizes) settings.input.sizes made.list made.yard) }
 {
     let input: &[u8] = b"";
     let out = Received::new(alloc);
@@ -87,7 +89,8 @@ pub fn front_of_run<T: Threads + Wait + Sync, F: Files, S: Terminal + Sync>(
     terminal: &S,
 ) -> Option<Vec<u8>>
     ensures { IfSome result (λ lines. (lines.items ≡ []) ⊎ ((made : Made) × IsHeadline (handed_of made) × ((n : ℕ) × (lines.items ≡ take n made.report))
-        × IsTextOf ((F.known files.old).given names.entry.yard.now) made.list × IsSizedList (F.known files.old) (option_map (λ name. name.now) names.entry.sizes) settings.input.sizes made.list made.yard)) }
+        × IsTextOf (comma_list_of names.entry.separator ((F.known files.old).given names.entry.yard.now)) made.list
+        × IsSizedList (F.known files.old) names.entry.separator (option_map (λ name. name.now) names.entry.sizes) settings.input.sizes made.list made.yard)) }
 {
     let input: &[u8] = b"";
     let out = Received::new(alloc);

@@ -18,7 +18,8 @@ use Rattle.crp_jobs.specs.declared.job.Job.TheVariants as job
 use Rattle.crp_jobs.specs.declared.outcome.ToolFault.{ToolFault}
 use Rattle.crp_jobs.specs.declared.outcome.ToolFault.TheVariants as fault
 use Rattle.crp_jobs.specs.Opened.{FilesSeen, IsLeftAlone}
-use Rattle.crp_jobs.specs.Sized.{list_named, with_sizes}
+use Rattle.crp_jobs.specs.Sized.{list_named, separator_of, with_sizes}
+use Rattle.crp_separated.specs.Inputs.{comma_list_of}
 use Rattle.crp_commands.specs.Performing.{JobSeen, ReportsOverFiles, FailsOverFiles}
 use Rattle.crp_commands.specs.Sized.{AsSized, IsNoList, IsUnsized, IsDone, IsFailed, behind}
 use Rattle.crp_commands.specs.Headlines.{KeepsHeadline, KeepsHeadlineSoFar}
@@ -48,21 +49,21 @@ done_unsized j seen (Ok ended) none is = rw none (is, headline_kept j seen ended
 done_unsized j seen (Err f) none is = inr (rw none (is, headline_so_far j seen f is))
 
 -- what was read of the list that it names
-pub record IsRead (known : KnownFiles) (before : ℕ) (list : List ℕ × InputChosen) (sized : YardSizes) (failures : ℕ) : Type 0 where
+pub record IsRead (known : KnownFiles) (before separator : ℕ) (list : List ℕ × InputChosen) (sized : YardSizes) (failures : ℕ) : Type 0 where
   pub text : List ℕ
   pub n : ℕ
-  pub is_text : IsTextOf (known.given list.0) text
+  pub is_text : IsTextOf (comma_list_of separator (known.given list.0)) text
   pub listed : IsSizesListOf list.1.sizes.common text sized
   pub few : n ≤ most_interruptions
   pub failed : CountsMore n before failures
 
 as_sized : (j : Job) (seen : JobSeen) (list : List ℕ × InputChosen) (sized : YardSizes) (failures : ℕ) (Holds : Job → JobSeen → Type 0) → list_named j ≡ Some list
-    → IsRead seen.files.known seen.files.before list sized failures → Holds (with_sizes sized j) (behind failures seen) → AsSized j seen Holds
+    → IsRead seen.files.known seen.files.before (separator_of j) list sized failures → Holds (with_sizes sized j) (behind failures seen) → AsSized j seen Holds
 as_sized j seen list sized failures Holds some is holds = rw some (is.text, sized, is.n, failures, is.is_text, is.listed, is.few, is.failed, holds)
 
 -- and where it names one, it is done with its sizes
 done_with : (j : Job) (seen : JobSeen) (list : List ℕ × InputChosen) (sized : YardSizes) (failures : ℕ) (answer : Result Status ToolFault) → list_named j ≡ Some list
-    → IsRead seen.files.known seen.files.before list sized failures
+    → IsRead seen.files.known seen.files.before (separator_of j) list sized failures
     → MatchResult answer (ReportsOverFiles (with_sizes sized j) (behind failures seen)) (FailsOverFiles (with_sizes sized j) (behind failures seen))
     → MatchResult answer (IsDone j seen) (IsFailed j seen)
 done_with j seen list sized failures (Ok ended) some is done =
@@ -76,7 +77,7 @@ abbrev at : JobSeen → ℕ → KnownFiles → JobSeen
 at seen failures known = record seen { files = record seen.files { known = known; before = failures } }
 
 pub done_sized : (j made : Job) (seen : JobSeen) (list : List ℕ × InputChosen) (sized : YardSizes) (known : KnownFiles) (failures : ℕ) (answer : Result Status ToolFault)
-    → list_named j ≡ Some list → made ≡ with_sizes sized j → known ≡ seen.files.known → IsRead seen.files.known seen.files.before list sized failures
+    → list_named j ≡ Some list → made ≡ with_sizes sized j → known ≡ seen.files.known → IsRead seen.files.known seen.files.before (separator_of j) list sized failures
     → MatchResult answer (ReportsOverFiles made (at seen failures known)) (FailsOverFiles made (at seen failures known))
     → MatchResult answer (IsDone j seen) (IsFailed j seen)
 done_sized j made seen list sized known failures answer some same kept is done =
@@ -84,28 +85,29 @@ done_sized j made seen list sized known failures answer some same kept is done =
     done_with j seen list sized failures answer some is
     (subst (λ (k : KnownFiles). MatchResult answer (ReportsOverFiles (with_sizes sized j) (at seen failures k)) (FailsOverFiles (with_sizes sized j) (at seen failures k))) kept own)
 
--- as it was read with the common heights of the job
-pub was_read : (known : KnownFiles) (before failures : ℕ) (list : List ℕ × InputChosen) (common : List ℕ) (sized : YardSizes) → common ≡ list.1.sizes.common
-    → (text : List ℕ) × IsTextOf (known.given list.0) text × IsSizesListOf common text sized → (n : ℕ) × (n ≤ most_interruptions) × CountsMore n before failures
-    → IsRead known before list sized failures
-was_read known before failures list common sized same (text, is, listed) (n, few, failed) = record {
+-- as it was read with the byte between fields and the common heights of the job
+pub was_read : (known : KnownFiles) (before used separator failures : ℕ) (list : List ℕ × InputChosen) (common : List ℕ) (sized : YardSizes) → used ≡ separator
+    → common ≡ list.1.sizes.common → (text : List ℕ) × IsTextOf (comma_list_of used (known.given list.0)) text × IsSizesListOf common text sized → (n : ℕ) × (n ≤ most_interruptions) × CountsMore n before failures
+    → IsRead known before separator list sized failures
+was_read known before used separator failures list common sized byte same (text, is, listed) (n, few, failed) = record {
   text = text;
   n = n;
-  is_text = is;
+  is_text = subst (λ (n : ℕ). IsTextOf (comma_list_of n (known.given list.0)) text) byte is;
   listed = subst (λ (l : List ℕ). IsSizesListOf l text sized) same listed;
   few = few;
   failed = failed;
 }
 
 -- a list that was not read
-pub unsized : (j : Job) (seen : JobSeen) (list : List ℕ × InputChosen) (f : ToolFault) → list_named j ≡ Some list → IsNoList seen.files list.0 f
+pub unsized : (j : Job) (seen : JobSeen) (list : List ℕ × InputChosen) (f : ToolFault) (used : ℕ) → list_named j ≡ Some list → used ≡ separator_of j
+    → IsNoList seen.files used list.0 f
     → seen.files.left ≡ seen.files.known → seen.input.after ≡ seen.input.before → IsLeftAlone seen.out → IsUnsized j seen f
-unsized j seen list f some none kept input out = record { list = rw some none; kept = kept; input = input; out = out }
+unsized j seen list f used some byte none kept input out = record { list = rw some (subst (λ (n : ℕ). IsNoList seen.files n list.0 f) byte none); kept = kept; input = input; out = out }
 
 -- or one for whose sizes memory is lacking
-pub no_room : (files : FilesSeen) (list : List ℕ × InputChosen) (sized : YardSizes) → IsRead files.known files.before list sized files.after → IsNoList files list.0 fault.Memory
-no_room files list sized is =
-    inr (record { given = files.known.given list.0; before = 0; after = is.n }, sizes.Memory, record { bytes = refl; new = refl }, refl, tt, is.failed, omega (arith, is.few))
+pub no_room : (files : FilesSeen) (separator : ℕ) (list : List ℕ × InputChosen) (sized : YardSizes) → IsRead files.known files.before separator list sized files.after → IsNoList files separator list.0 fault.Memory
+no_room files separator list sized is =
+    inr (record { given = comma_list_of separator (files.known.given list.0); before = 0; after = is.n }, sizes.Memory, record { bytes = refl; new = refl }, refl, tt, is.failed, omega (arith, is.few))
 
 -- where nothing is written, nothing is noted
 pub unnoted_job : (j : Job) (held : Option (List ℕ)) (failures : ℕ) → IsNoted j (record { held = held; holds = held; before = failures; after = failures })
@@ -113,6 +115,7 @@ unnoted_job (job.OneFile file command stop) held failures = unnoted_in command h
 unnoted_job (job.Absent names settings) held failures = (Keeps-refl held, refl)
 unnoted_job (job.Audit names settings) held failures = unnoted (not names.partial) held failures
 unnoted_job (job.Follow names settings) held failures = unnoted (not names.partial && not (is_some names.movins)) held failures
+unnoted_job (job.Compare names settings) held failures = unnoted (not names.partial) held failures
 unnoted_job (job.Solve names settings quiet progress) held failures = unnoted quiet held failures
 
 -- notes are of the job, whatever its sizes
@@ -121,4 +124,5 @@ noted_sized (job.OneFile file command stop) sized s is = is
 noted_sized (job.Absent names settings) sized s is = is
 noted_sized (job.Audit names settings) sized s is = is
 noted_sized (job.Follow names settings) sized s is = is
+noted_sized (job.Compare names settings) sized s is = is
 noted_sized (job.Solve names settings quiet progress) sized s is = is

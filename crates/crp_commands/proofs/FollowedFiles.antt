@@ -10,6 +10,7 @@ use Rattle.crp_report.specs.Runs.{SourceSeen, SinkSeen}
 use Rattle.crp_jobs.specs.declared.job.FollowFiles.{FollowFiles}
 use Rattle.crp_jobs.specs.declared.outcome.ToolFault.{ToolFault}
 use Rattle.crp_jobs.specs.declared.outcome.ToolFault.TheVariants as fault
+use Rattle.crp_commands.specs.Lists.{IsListOpened}
 use Rattle.crp_commands.specs.Follow.{AnswersOver, AreTextsTo, FollowChosen, FollowEnds, FollowFails, FollowFailsOverFiles, FollowReportsOverFiles, FollowSeen, IsMessageFrom, IsOfUnfollowed, IsOverFollowed, IsOverMessage, IsOverReport, IsOverTexts, IsReportFrom, IsTextMade, IsTextRefused, IsUnfollowed, Opened, RefusesFile, TextsSeen, Unended, all_ended, chosen_by, if_asked, list_name, message_name, page_name, sink_failures, source_failures}
 use Rattle.crp_commands.specs.Calls.{failures_of_tool_fault}
 use Rattle.crp_files.specs.declared.roles.Shared.{Shared}
@@ -205,7 +206,7 @@ more_before name files middle input before n u s known begun more (inr (named, o
     inr (named, subst (λ (k : KnownFiles). IsFileOpened k name s.report) known opened, unread, omega (arith, begun, more, failed))
 
 -- so much has failed, and of one that was open nothing has
-one_too : (n : ℕ) (source : SourceSeen) (files middle : FilesSeen) → source.before ≡ 0 → source.after ≡ source.before → middle.before ≡ files.before
+pub one_too : (n : ℕ) (source : SourceSeen) (files middle : FilesSeen) → source.before ≡ 0 → source.after ≡ source.before → middle.before ≡ files.before
     → CountsMore source.after middle.after files.after → CountsMore n middle.before middle.after → CountsMore n files.before files.after
 one_too n source files middle new alone begun closed one = omega (arith, new, alone, begun, closed, one)
 
@@ -312,14 +313,14 @@ over_none chosen names files yard input out answer unnamed =
 -- ---- the yard list
 
 pub over_yard : (input_chosen : InputChosen) (names : FollowFiles) (files middle : FilesSeen) (yard input : SourceSeen) (out : SinkSeen) (answer : Result Status ToolFault)
-    → middle.known ≡ files.known → files.left ≡ middle.left → middle.before ≡ files.before → IsFileOpened files.known names.yard.now yard → CountsMore yard.after middle.after files.after
+    → middle.known ≡ files.known → files.left ≡ middle.left → middle.before ≡ files.before → IsListOpened files.known names.separator names.yard.now yard → CountsMore yard.after middle.after files.after
     → AnswersOver (chosen_by names input_chosen) (IsOverMessage names middle yard input out) (RefusesFile names middle (opened yard None out) input) answer
     → MatchResult answer (FollowReportsOverFiles names input_chosen files input out) (FollowFailsOverFiles names input_chosen files input out)
 over_yard input_chosen names files middle yard input out answer known end begun is closed =
     known_so (chosen_by names input_chosen) (IsOverMessage names middle yard input out) (IsOverFollowed names files input out) (RefusesFile names middle (opened yard None out) input)
     (IsUnfollowed names files input out) answer
     (λ u s over. record {
-      yard = subst (IsFileOpened files.known names.yard.now) (sym over.yard) is;
+      yard = subst (IsListOpened files.known names.separator names.yard.now) (sym over.yard) is;
       movins = subst (λ (k : KnownFiles). IsMessageFrom k (message_name names) s.movins) known over.movins;
       report = subst (λ (source : SourceSeen). IsReportFrom names.report.now files input (source.after + source_failures s.movins) u s) (sym over.yard)
           (more_before names.report.now files middle input (source_failures s.movins) yard.after u s known begun closed over.report);

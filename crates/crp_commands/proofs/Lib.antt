@@ -8,9 +8,11 @@ pub mod ListedAbsent
 pub mod Traced
 pub mod Performed
 pub mod Finished
+pub mod OpenedLists
 pub mod TwoFiles
 pub mod Solved
 pub mod FollowedFiles
+pub mod Compared
 pub mod Promised
 pub mod AsSized
 pub mod Noted

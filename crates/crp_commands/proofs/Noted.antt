@@ -29,8 +29,8 @@ shown_none held = shows_nothing held
 
 pub unnoted_in : (c : FileCommand) (held : Option (List ℕ)) (failures : ℕ) → IsNotedIn c (record { held = held; holds = held; before = failures; after = failures })
 unnoted_in command.Replay held failures = (Keeps-refl held, refl)
-unnoted_in (command.Bound chains) held failures = (Keeps-refl held, refl)
-unnoted_in (command.Check any_size workers) held failures = inl (Keeps-refl held, refl)
+unnoted_in (command.Bound chains json) held failures = (Keeps-refl held, refl)
+unnoted_in (command.Check any_size workers json) held failures = inl (Keeps-refl held, refl)
 unnoted_in (command.Prove search) held failures = (Keeps-refl held, refl)
 unnoted_in command.Rewrite held failures = (Keeps-refl held, refl)
 
@@ -49,14 +49,14 @@ pub tells_more : (stated : List (YardBay × Verdict)) (last : YardBay × Verdict
 tells_more [] last s alone = alone
 tells_more (first ∷ rest) last s alone = alone
 
-noted_of : (any_size : Bool) (workers : ℕ) (stated : List (YardBay × Verdict)) (s : SinkSeen) → TellsOfNone stated s → IsNotedIn (command.Check any_size workers) s
-noted_of any_size workers [] s note = inr note
-noted_of any_size workers (first ∷ rest) s alone = inl alone
+noted_of : (any_size : Bool) (workers : ℕ) (json : Bool) (stated : List (YardBay × Verdict)) (s : SinkSeen) → TellsOfNone stated s → IsNotedIn (command.Check any_size workers json) s
+noted_of any_size workers json [] s note = inr note
+noted_of any_size workers json (first ∷ rest) s alone = inl alone
 
 -- what a check shows, however it ended
-pub noted_check : (any_size : Bool) (workers : ℕ) (lines s : SinkSeen) (answer : Result Status ToolFault) → MatchResult answer (λ _. TellsWhetherEmpty lines s) (λ _. IsLeftAlone s) → IsNotedIn (command.Check any_size workers) s
-noted_check any_size workers lines s (Ok status) (stated, written, tells) = noted_of any_size workers stated s tells
-noted_check any_size workers lines s (Err fault) alone = inl alone
+pub noted_check : (any_size : Bool) (workers : ℕ) (json : Bool) (lines s : SinkSeen) (answer : Result Status ToolFault) → MatchResult answer (λ _. TellsWhetherEmpty lines s) (λ _. IsLeftAlone s) → IsNotedIn (command.Check any_size workers json) s
+noted_check any_size workers json lines s (Ok status) (stated, written, tells) = noted_of any_size workers json stated s tells
+noted_check any_size workers json lines s (Err fault) alone = inl alone
 
 -- what a sink saw first, and then
 abbrev pub seen_from : Option (List ℕ) → Option (List ℕ) → ℕ → ℕ → SinkSeen
@@ -80,9 +80,9 @@ lines_then a b c m n o text (inr (part, failed)) (next, more) = inr (part_kept a
 
 noted_in_alone : (d : FileCommand) (a b c : Option (List ℕ)) (m n o : ℕ) → IsNotedIn d (seen_from a b m n) → IsLeftAlone (seen_from b c n o) → IsNotedIn d (seen_from a c m o)
 noted_in_alone command.Replay a b c m n o first next = alone_then a b c m n o first next
-noted_in_alone (command.Bound chains) a b c m n o first next = alone_then a b c m n o first next
-noted_in_alone (command.Check any_size workers) a b c m n o (inl first) next = inl (alone_then a b c m n o first next)
-noted_in_alone (command.Check any_size workers) a b c m n o (inr first) next = inr (lines_then a b c m n o empty_note first next)
+noted_in_alone (command.Bound chains json) a b c m n o first next = alone_then a b c m n o first next
+noted_in_alone (command.Check any_size workers json) a b c m n o (inl first) next = inl (alone_then a b c m n o first next)
+noted_in_alone (command.Check any_size workers json) a b c m n o (inr first) next = inr (lines_then a b c m n o empty_note first next)
 noted_in_alone (command.Prove search) a b c m n o first next = alone_then a b c m n o first next
 noted_in_alone command.Rewrite a b c m n o first next = alone_then a b c m n o first next
 
@@ -103,6 +103,11 @@ noted_both true false a b c m n o (first, is) (text, next) = (text, kept_shows a
 noted_both false true a b c m n o first next = noted_by_alone false a b c m n o first next
 noted_both false false a b c m n o first next = shows_then a b c first next
 
+-- two notes that may come alike
+pub noted_twice : (quiet : Bool) (a b c : Option (List ℕ)) (m n o : ℕ) → IsNotedBy quiet (seen_from a b m n) → IsNotedBy quiet (seen_from b c n o) → IsNotedBy quiet (seen_from a c m o)
+noted_twice true a b c m n o first next = alone_then a b c m n o first next
+noted_twice false a b c m n o first next = shows_then a b c first next
+
 -- one note, and no other
 pub noted_first : (one two : Bool) (a b : Option (List ℕ)) (m n : ℕ) → IsNotedBy one (seen_from a b m n) → IsNotedBy (one && two) (seen_from a b m n)
 noted_first one two a b m n first = noted_both one two a b b m n n first (unnoted two b n)
@@ -119,4 +124,5 @@ noted_alone (job.OneFile file command stop) a b c m n o first next = noted_in_al
 noted_alone (job.Absent names settings) a b c m n o first next = alone_then a b c m n o first next
 noted_alone (job.Audit names settings) a b c m n o first next = noted_by_alone (not names.partial) a b c m n o first next
 noted_alone (job.Follow names settings) a b c m n o first next = noted_by_alone (not names.partial && not (is_some names.movins)) a b c m n o first next
+noted_alone (job.Compare names settings) a b c m n o first next = noted_by_alone (not names.partial) a b c m n o first next
 noted_alone (job.Solve names settings quiet progress) a b c m n o first next = noted_by_alone quiet a b c m n o first next

@@ -47,8 +47,10 @@ no_head_reported limit IsReport IsRefused seen (fault.ReadOf which) keeps refuse
 no_head_reported limit IsReport IsRefused seen (fault.TooLargeOf which) keeps refuses none = absurd none
 no_head_reported limit IsReport IsRefused seen (fault.Followed f) keeps refuses none = absurd none
 no_head_reported limit IsReport IsRefused seen (fault.Loaded f) keeps refuses none = absurd none
+no_head_reported limit IsReport IsRefused seen (fault.Second f) keeps refuses none = absurd none
 no_head_reported limit IsReport IsRefused seen (fault.Sizes f) keeps refuses none = absurd none
 no_head_reported limit IsReport IsRefused seen fault.ReadSizes keeps refuses none = absurd none
+no_head_reported limit IsReport IsRefused seen fault.ReadSecond keeps refuses none = absurd none
 no_head_reported limit IsReport IsRefused seen fault.WriteTable keeps refuses none = absurd none
 no_head_reported limit IsReport IsRefused seen fault.WritePage keeps refuses none = absurd none
 no_head_reported limit IsReport IsRefused seen (fault.OneFile both) keeps refuses none = absurd none
@@ -69,8 +71,10 @@ no_report_reported limit seen bytes head (fault.ReadOf which) keeps given is non
 no_report_reported limit seen bytes head (fault.TooLargeOf which) keeps given is none = absurd none
 no_report_reported limit seen bytes head (fault.Followed f) keeps given is none = absurd none
 no_report_reported limit seen bytes head (fault.Loaded f) keeps given is none = absurd none
+no_report_reported limit seen bytes head (fault.Second f) keeps given is none = absurd none
 no_report_reported limit seen bytes head (fault.Sizes f) keeps given is none = absurd none
 no_report_reported limit seen bytes head fault.ReadSizes keeps given is none = absurd none
+no_report_reported limit seen bytes head fault.ReadSecond keeps given is none = absurd none
 no_report_reported limit seen bytes head fault.WriteTable keeps given is none = absurd none
 no_report_reported limit seen bytes head fault.WritePage keeps given is none = absurd none
 no_report_reported limit seen bytes head (fault.OneFile both) keeps given is none = absurd none

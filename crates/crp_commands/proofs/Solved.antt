@@ -18,6 +18,7 @@ use Rattle.crp_jobs.specs.declared.outcome.ToolFault.{ToolFault}
 use Rattle.crp_jobs.specs.declared.outcome.ToolFault.TheVariants as fault
 use Rattle.crp_jobs.specs.Names.{named_in_run}
 use Rattle.crp_jobs.specs.Opened.{FilesSeen, IsFileOpened, IsWanted, IsLeft, IsOneRefused, IsLeftAlone}
+use Rattle.crp_commands.specs.Lists.{IsListOpened}
 use Rattle.crp_commands.specs.Solving.{Unfinished, unfinished_of, file_of, AreTwo, FailsWhereAsked, IsOverFiles, IsSharedInRun, RunReportsOverFiles, RunFailsOverFiles, SolveFailsOverFiles}
 use Rattle.crp_commands.proofs.Finished.{Unless, unfinished_in, same_leave, more_and_more}
 use Rattle.crp_commands.proofs.TwoFiles.{AreThere, AreWritten, Times, files_in, one_left, one_wanted, others_kept, refused_before, there_keeps, there_links, two_left, two_wanted}
@@ -34,7 +35,7 @@ pub record Counts : Type 0 where
 
 -- the files that it writes have these names, where they are asked for
 pub record CourseOf (names : RunFiles) (cert after : Option (List ℕ)) (k : Times) (n : Counts) (u : Unfinished) (s : RunSeen) : Type 0 where
-  pub yard : IsFileOpened k.first names.yard.now s.yard
+  pub yard : IsListOpened k.first names.separator names.yard.now s.yard
   pub movins : IsFileOpened k.first names.movins.now s.movins
   pub apart : IsShared k.opened (named_in_run names) → ⊥
   pub written : AreWritten cert after k n.first n.one_finished n.finished u.certificates u.yard_after s.certificates s.yard_after

@@ -20,7 +20,8 @@ use Rattle.crp_report.specs.Runs.{SourceSeen, SinkSeen, GetsFront, GetsNothing}
 use Rattle.crp_jobs.specs.declared.outcome.ToolFault.{ToolFault}
 use Rattle.crp_jobs.specs.declared.outcome.ToolFault.TheVariants as fault
 use Rattle.crp_jobs.specs.Outcomes.{fault_of_follow, fault_of_loading}
-use Rattle.crp_commands.specs.Follow.{AreTextsOf, HasNoTexts, IsFollowInput, Ship, StopsPage, StopsWriting, Texts, WritesPart, WritesWhole, if_asked, loading_faults, made_for, numbers_for, order_for, sink_failures, table_for}
+use Rattle.crp_commands.specs.Lists.{with_separator}
+use Rattle.crp_commands.specs.Follow.{AreTextsOf, HasNoTexts, IsFollowInput, IsPartedList, Ship, StopsPage, StopsWriting, Texts, WritesPart, WritesWhole, if_asked, loading_faults, made_for, numbers_for, order_for, sink_failures, table_for}
 use Rattle.crp_commands.specs.Noted.{IsNotedBy}
 use Rattle.crp_commands.specs.Partial.{IsReportIn}
 use Rattle.crp_jobs.specs.Opened.{IsSourceLeftAlone}
@@ -110,11 +111,11 @@ noted_so ship asked s is noted = subst (λ (b : Bool). IsNotedBy (not b) s) is n
 -- ---- how a call ends
 
 -- the sources had an input and a report: what comes of its texts is what comes of the call
-pub texts_of_call : (ship : Option Ship) (loaded : Option ℕ) (summary : Bool) (yard : Inventory) (report : List ℕ) (numbers : Numbers) (bays : List BayFollowed) (x : Texts) (asked : Bool)
-    (sink : SinkSeen) → IsFollowed yard report numbers bays → loading_faults ship bays ≡ [] → x.page ≡ page_text yard (numbers_for ship yard numbers) (order_for ship) bays
-    → (IsTrue asked → IsListBehind yard (made_for ship loaded bays) x.list) → x.table ≡ table_for summary ship bays
-    → AreTextsOf ship loaded summary yard report (is_some (if_asked asked sink)) x
-texts_of_call ship loaded summary yard report numbers bays x asked sink followed faultless page list table = record {
+pub texts_of_call : (ship : Option Ship) (loaded : Option ℕ) (summary : Bool) (separator : ℕ) (yard : Inventory) (report : List ℕ) (numbers : Numbers) (bays : List BayFollowed)
+    (x : Texts) (asked : Bool) (sink : SinkSeen) → IsFollowed yard report numbers bays → loading_faults ship bays ≡ [] → x.page ≡ page_text yard (numbers_for ship yard numbers) (order_for ship) bays
+    → (IsTrue asked → IsPartedList separator yard (made_for ship loaded bays) x.list) → x.table ≡ with_separator separator (table_for summary ship bays)
+    → AreTextsOf ship loaded summary separator yard report (is_some (if_asked asked sink)) x
+texts_of_call ship loaded summary separator yard report numbers bays x asked sink followed faultless page list table = record {
   numbers = numbers;
   bays = bays;
   is_loaded = (followed, faultless);

@@ -31,6 +31,7 @@ use Rattle.crp_commands.specs.Check.{verdict_lines}
 use Rattle.crp_commands.specs.Partial.{IsReportIn, part_of}
 use Rattle.crp_files.specs.Known.{KnownFiles}
 use Rattle.crp_jobs.specs.Opened.{FilesSeen, FilesFail, AreFilesKept, IsFileOpened, IsOneRefused, IsLeftAlone}
+use Rattle.crp_commands.specs.Lists.{IsListOpened}
 
 -- what is asked for: what the input means, and whether the report may end early
 pub record AuditChosen : Type 0 where
@@ -160,7 +161,7 @@ AuditFails chosen s f = AuditFailsWith chosen s f × (audit_failures s ≤ most_
 
 -- the sources are the files of these names; what failed of the files is what failed of them, and none has changed
 pub record IsOverNamed (files : FilesSeen) (names : AuditFiles) (shown : SinkSeen) (s : AuditSeen) : Type 0 where
-  pub yard : IsFileOpened files.known names.yard.now s.yard
+  pub yard : IsListOpened files.known names.separator names.yard.now s.yard
   pub movins : IsFileOpened files.known names.movins.now s.movins
   pub report : IsFileOpened files.known names.report.now s.report
   pub certificates : IsFileOpened files.known names.certificates.now s.certificates

@@ -32,6 +32,7 @@ abbrev pub failures_of_tool_fault : ToolFault → ℕ
 failures_of_tool_fault fault.Read = 1
 failures_of_tool_fault (fault.ReadOf which) = 1
 failures_of_tool_fault fault.ReadSizes = 1
+failures_of_tool_fault fault.ReadSecond = 1
 failures_of_tool_fault fault.Write = 1
 failures_of_tool_fault fault.WriteTable = 1
 failures_of_tool_fault fault.WritePage = 1

@@ -44,14 +44,16 @@ use Rattle.crp_files.specs.Known.{KnownFiles}
 use Rattle.crp_files.specs.Roles.{IsShared}
 use Rattle.crp_jobs.specs.Names.{after_name, named_in_follow}
 use Rattle.crp_jobs.specs.Opened.{FilesSeen, FilesFail, AreUnemptied, IsFileOpened, IsFileMade, IsLeft, IsSourceLeftAlone, IsLeftAlone}
+use Rattle.crp_commands.specs.Lists.{IsListOpened, with_separator}
 
--- what is asked for: what the input means, how many containers the ship has got, if the yard after is that of then, whether the report may end early, and
--- whether the table is to be that of the bays
+-- what is asked for: what the input means, how many containers the ship has got, if the yard after is that of then, whether the report may end early,
+-- whether the table is to be that of the bays, and the byte between the fields of what is written
 pub record FollowChosen : Type 0 where
   pub input : InputChosen
   pub loaded : Option ℕ
   pub partial : Bool
   pub summary : Bool
+  pub separator : ℕ
 
 -- what a call saw of the sinks of its texts: that of the page and that of the list, where these are asked for, and that of the table
 pub record TextsSeen : Type 0 where
@@ -153,6 +155,10 @@ made_for (Some ship) (Some n) bays = made_up_to ship.1 n bays
 made_for (Some ship) None bays = all_moves bays
 made_for None loaded bays = all_moves bays
 
+-- the text is the list of the yard behind these moves, with this byte between its fields
+abbrev pub IsPartedList : ℕ → Inventory → List Made → List ℕ → Type 0
+IsPartedList separator yard made text = (list : List ℕ) × IsListBehind yard made list × (text ≡ with_separator separator list)
+
 -- the texts of a report: its page, the list of the yard behind its moves, and the table of them or of its bays
 pub record Texts : Type 0 where
   pub page : List ℕ
@@ -160,13 +166,13 @@ pub record Texts : Type 0 where
   pub table : List ℕ
 
 -- the report is followed over the yard and loads the ship, and these are its texts, that of the list where it is wanted
-pub record AreTextsOf (ship : Option Ship) (loaded : Option ℕ) (summary : Bool) (yard : Inventory) (report : List ℕ) (wanted : Bool) (x : Texts) : Type 0 where
+pub record AreTextsOf (ship : Option Ship) (loaded : Option ℕ) (summary : Bool) (separator : ℕ) (yard : Inventory) (report : List ℕ) (wanted : Bool) (x : Texts) : Type 0 where
   pub numbers : Numbers
   pub bays : List BayFollowed
   pub is_loaded : IsLoaded ship yard report numbers bays
   pub page : x.page ≡ page_text yard (numbers_for ship yard numbers) (order_for ship) bays
-  pub list : IsTrue wanted → IsListBehind yard (made_for ship loaded bays) x.list
-  pub table : x.table ≡ table_for summary ship bays
+  pub list : IsTrue wanted → IsPartedList separator yard (made_for ship loaded bays) x.list
+  pub table : x.table ≡ with_separator separator (table_for summary ship bays)
 
 -- why a report has no texts: its first fault, or where it is followed the first fault of its takes, or lack of memory
 abbrev pub HasNoTexts : Option Ship → Inventory → List ℕ → ToolFault → Type 0
@@ -202,13 +208,13 @@ StopsWriting x t fault.Memory = IfSome t.page (λ s. GetsFront s x.page) × IfSo
 StopsWriting x t f = ⊥
 
 -- the texts of the report were written
-abbrev pub WritesTexts : Option Ship → Option ℕ → Bool → Inventory → List ℕ → TextsSeen → Type 0
-WritesTexts ship loaded summary yard report t = (x : Texts) × AreTextsOf ship loaded summary yard report (is_some t.list) x × WritesAll x t
+abbrev pub WritesTexts : Option Ship → Option ℕ → Bool → ℕ → Inventory → List ℕ → TextsSeen → Type 0
+WritesTexts ship loaded summary separator yard report t = (x : Texts) × AreTextsOf ship loaded summary separator yard report (is_some t.list) x × WritesAll x t
 
 -- why they were not: there are none, and nothing was written; or not all of them were
-abbrev pub StopsFollowing : Option Ship → Option ℕ → Bool → Inventory → List ℕ → TextsSeen → ToolFault → Type 0
-StopsFollowing ship loaded summary yard report t f = (HasNoTexts ship yard report f × WritesNothing t)
-    ⊎ ((x : Texts) × AreTextsOf ship loaded summary yard report (is_some t.list) x × StopsWriting x t f)
+abbrev pub StopsFollowing : Option Ship → Option ℕ → Bool → ℕ → Inventory → List ℕ → TextsSeen → ToolFault → Type 0
+StopsFollowing ship loaded summary separator yard report t f = (HasNoTexts ship yard report f × WritesNothing t)
+    ⊎ ((x : Texts) × AreTextsOf ship loaded summary separator yard report (is_some t.list) x × StopsWriting x t f)
 
 -- the sources had this input and a text that is this report: of one that ends early it is the report with its last line
 pub record AreGiven (chosen : FollowChosen) (s : FollowSeen) (yard : Inventory) (ship : Option Ship) (report : List ℕ) : Type 0 where
@@ -218,7 +224,7 @@ pub record AreGiven (chosen : FollowChosen) (s : FollowSeen) (yard : Inventory) 
 -- the sources had an input and a report that is followed: its texts were written, and nothing else
 abbrev pub Follows : FollowChosen → FollowSeen → Type 0
 Follows chosen s = (yard : Inventory) × (ship : Option Ship) × (report : List ℕ) × AreGiven chosen s yard ship report
-    × WritesTexts ship chosen.loaded chosen.summary yard report s.texts
+    × WritesTexts ship chosen.loaded chosen.summary chosen.separator yard report s.texts
 
 -- why there is no input, as a run states it, or where it is accepted no report
 abbrev pub IsNotRead : FollowChosen → FollowSeen → ToolFault → Type 0
@@ -229,7 +235,7 @@ IsNotRead chosen s f = ((g : Fault) × (f ≡ fault.Run g) × IsNoFollowInput ch
 abbrev pub FollowFailsWith : FollowChosen → FollowSeen → ToolFault → Type 0
 FollowFailsWith chosen s f = (IsNotRead chosen s f × WritesNothing s.texts)
     ⊎ ((yard : Inventory) × (ship : Option Ship) × (report : List ℕ) × AreGiven chosen s yard ship report
-    × StopsFollowing ship chosen.loaded chosen.summary yard report s.texts f)
+    × StopsFollowing ship chosen.loaded chosen.summary chosen.separator yard report s.texts f)
 
 -- ---- with its failures
 
@@ -309,7 +315,7 @@ pub record AreTextsTo (files : FilesSeen) (names : FollowFiles) (u : Unended) (t
 -- the sources are the files of the yard list and of the message, where one is named, and what the name of the report stands for, and the page and the list go
 -- to the files of their names
 pub record IsOverFollowed (names : FollowFiles) (files : FilesSeen) (input : SourceSeen) (shown : SinkSeen) (u : Unended) (s : FollowSeen) : Type 0 where
-  pub yard : IsFileOpened files.known names.yard.now s.yard
+  pub yard : IsListOpened files.known names.separator names.yard.now s.yard
   pub movins : IsMessageFrom files.known (message_name names) s.movins
   pub report : IsReportFrom names.report.now files input (s.yard.after + source_failures s.movins) u s
   pub texts : AreTextsTo files names u s.texts
@@ -349,7 +355,13 @@ FollowStops chosen u s f = FollowFails chosen s f ⊎ (IsUnended u f × ((ended 
 
 -- what is asked for by these names, where the input means this
 abbrev pub chosen_by : FollowFiles → InputChosen → FollowChosen
-chosen_by names input = record { input = input; loaded = option_and_then (λ file. file.loaded) names.after; partial = names.partial; summary = names.summary }
+chosen_by names input = record {
+  input = input;
+  loaded = option_and_then (λ file. file.loaded) names.after;
+  partial = names.partial;
+  summary = names.summary;
+  separator = names.separator;
+}
 
 -- how the job ends
 abbrev pub FollowReportsOverFiles : FollowFiles → InputChosen → FilesSeen → SourceSeen → SinkSeen → Status → Type 0

@@ -17,6 +17,7 @@ ForRun (job.OneFile file command stop) P = ⊤
 ForRun (job.Absent names settings) P = ⊤
 ForRun (job.Audit names settings) P = ⊤
 ForRun (job.Follow names settings) P = ⊤
+ForRun (job.Compare names settings) P = ⊤
 ForRun (job.Solve names chosen quiet progress) P = P names chosen
 
 -- the texts were made of the files of these names, as far as their bytes are known; the sink of the report got the report, and the files of the

@@ -1,4 +1,5 @@
 -- What the commands write, and what a job does.
+pub mod Lists
 pub mod Calls
 pub mod Replay
 pub mod Bound
@@ -7,6 +8,7 @@ pub mod Check
 pub mod Audit
 pub mod Absent
 pub mod Follow
+pub mod Compare
 pub mod Rewrite
 pub mod Checks
 pub mod Apart

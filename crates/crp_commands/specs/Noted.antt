@@ -36,16 +36,17 @@ IsNotedBy false s = ShowsMore s.held s.holds
 
 -- a check leaves the sink alone, or shows that the file holds no certificate; another command over one file leaves it alone
 abbrev pub IsNotedIn : FileCommand → SinkSeen → Type 0
-IsNotedIn (command.Check any_size workers) s = IsLeftAlone s ⊎ GetsLines s empty_note
+IsNotedIn (command.Check any_size workers json) s = IsLeftAlone s ⊎ GetsLines s empty_note
 IsNotedIn command.Replay s = IsLeftAlone s
-IsNotedIn (command.Bound chains) s = IsLeftAlone s
+IsNotedIn (command.Bound chains json) s = IsLeftAlone s
 IsNotedIn (command.Prove search) s = IsLeftAlone s
 IsNotedIn command.Rewrite s = IsLeftAlone s
 
--- a list of absent containers leaves it alone, and so do an audit of a report that may not end early, and what follows one without a message
+-- a list of absent containers leaves it alone, and so do an audit or a comparison of reports that may not end early, and what follows one without a message
 abbrev pub IsNoted : Job → SinkSeen → Type 0
 IsNoted (job.OneFile file command stop) s = IsNotedIn command s
 IsNoted (job.Absent names settings) s = IsLeftAlone s
 IsNoted (job.Audit names settings) s = IsNotedBy (not names.partial) s
 IsNoted (job.Follow names settings) s = IsNotedBy (not names.partial && not (is_some names.movins)) s
+IsNoted (job.Compare names settings) s = IsNotedBy (not names.partial) s
 IsNoted (job.Solve names settings quiet progress) s = IsNotedBy quiet s

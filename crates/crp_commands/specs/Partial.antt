@@ -20,9 +20,9 @@ part_of (Some bays) yard sequence = first_sequence bays yard sequence
 abbrev pub standing_words : ℕ → List ℕ
 standing_words bays = if bays == 1 then codes " bay stands there\n" else codes " bays stand there\n"
 
--- that the last line is lacking, and how many bays stand there
-abbrev pub last_note : ℕ → List ℕ
-last_note bays = codes "crp: note: the report has no last line: " ++ (decimal bays ++ standing_words bays)
+-- that the last line is lacking of a report that is called so, and how many bays stand there
+abbrev pub last_note : List ℕ → ℕ → List ℕ
+last_note words bays = codes "crp: note: " ++ (words ++ (codes " has no last line: " ++ (decimal bays ++ standing_words bays)))
 
 -- behind the number of bays that do not
 abbrev pub behind_words : ℕ → List ℕ

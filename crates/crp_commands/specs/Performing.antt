@@ -16,6 +16,7 @@ use Rattle.crp_commands.specs.Solving.{RunReportsOverFiles, SolveFailsOverFiles}
 use Rattle.crp_commands.specs.Absent.{AbsentReportsOverFiles, AbsentFailsOverFiles}
 use Rattle.crp_commands.specs.Audit.{AuditReportsOverFiles, AuditFailsOverFiles}
 use Rattle.crp_commands.specs.Follow.{FollowReportsOverFiles, FollowFailsOverFiles}
+use Rattle.crp_commands.specs.Compare.{CompareReportsOverFiles, CompareFailsOverFiles}
 use Rattle.crp_commands.specs.Calls.{CallSeen, call_failures, most_call_failures, IsTextWithin, WritesReport, CallFailsWith}
 use Rattle.crp_yard.specs.Reading.{IsTextOf}
 use Rattle.crp_commands.specs.Replay.{IsReplay, IsNoReplay}
@@ -31,16 +32,16 @@ use Rattle.crp_commands.specs.declared.streams.Streams.{Streams}
 -- the command was done, and ended with this status: its whole report was written, and nothing else
 abbrev pub Performs : FileCommand → Status → CallSeen → Type 0
 Performs command.Replay ended s = (ended ≡ status.Decided) × WritesReport IsTextOf IsReplay s
-Performs (command.Bound chains) ended s = (ended ≡ status.Decided) × WritesReport IsTextOf (IsBound chains) s
-Performs (command.Check any_size workers) ended s = (ended ≡ status.Decided) × WritesReport (IsTextWithin (most_bytes any_size)) IsCheck s
+Performs (command.Bound chains json) ended s = (ended ≡ status.Decided) × WritesReport IsTextOf (IsBound chains) s
+Performs (command.Check any_size workers json) ended s = (ended ≡ status.Decided) × WritesReport (IsTextWithin (most_bytes any_size)) IsCheck s
 Performs (command.Prove search) ended s = WritesReport IsTextOf (IsProof search ended) s
 Performs command.Rewrite ended s = (ended ≡ status.Decided) × WritesReport IsTextOf IsRewritten s
 
 -- what a fault says of the command
 abbrev pub CommandFailsWith : FileCommand → CallSeen → ToolFault → Type 0
 CommandFailsWith command.Replay s f = CallFailsWith MOST_BYTES IsReplay IsNoReplay s f
-CommandFailsWith (command.Bound chains) s f = CallFailsWith MOST_BYTES (IsBound chains) IsNoBound s f
-CommandFailsWith (command.Check any_size workers) s f = CheckFailsWith (most_bytes any_size) s f
+CommandFailsWith (command.Bound chains json) s f = CallFailsWith MOST_BYTES (IsBound chains) IsNoBound s f
+CommandFailsWith (command.Check any_size workers json) s f = CheckFailsWith (most_bytes any_size) s f
 CommandFailsWith (command.Prove search) s f = CallFailsWith MOST_BYTES (IsSomeProof search) IsNoProof s f
 CommandFailsWith command.Rewrite s f = RewriteFailsWith s f
 
@@ -100,8 +101,8 @@ IsFrom name seen source = ((name ≡ codes "-") × IsFromInput seen source) ⊎ 
 abbrev pub unread_by : FileCommand → ToolFault
 unread_by command.Rewrite = fault.ReadOf statement.Report
 unread_by command.Replay = fault.Read
-unread_by (command.Bound chains) = fault.Read
-unread_by (command.Check any_size workers) = fault.Read
+unread_by (command.Bound chains json) = fault.Read
+unread_by (command.Check any_size workers json) = fault.Read
 unread_by (command.Prove search) = fault.Read
 
 -- the file of this name cannot be opened, as the standard input always can: this is a failed read, and all else was left alone
@@ -128,6 +129,7 @@ ReportsOverFiles (job.OneFile file c stop) seen ended = ReportsFile file.now c s
 ReportsOverFiles (job.Absent names settings) seen ended = IsSourceLeftAlone seen.input × AbsentReportsOverFiles names settings seen.files seen.out ended
 ReportsOverFiles (job.Audit names settings) seen ended = IsSourceLeftAlone seen.input × AuditReportsOverFiles names settings seen.files seen.out ended
 ReportsOverFiles (job.Follow names settings) seen ended = FollowReportsOverFiles names settings seen.files seen.input seen.out ended
+ReportsOverFiles (job.Compare names settings) seen ended = CompareReportsOverFiles names settings seen.files seen.input seen.out ended
 ReportsOverFiles (job.Solve names settings quiet progress) seen ended = IsSourceLeftAlone seen.input × RunReportsOverFiles names settings seen.files seen.out ended
 
 -- what a fault says of the job
@@ -136,4 +138,5 @@ FailsOverFiles (job.OneFile file c stop) seen f = FileFailsWith file.now c seen 
 FailsOverFiles (job.Absent names settings) seen f = IsSourceLeftAlone seen.input × AbsentFailsOverFiles names settings seen.files seen.out f
 FailsOverFiles (job.Audit names settings) seen f = IsSourceLeftAlone seen.input × AuditFailsOverFiles names settings seen.files seen.out f
 FailsOverFiles (job.Follow names settings) seen f = FollowFailsOverFiles names settings seen.files seen.input seen.out f
+FailsOverFiles (job.Compare names settings) seen f = CompareFailsOverFiles names settings seen.files seen.input seen.out f
 FailsOverFiles (job.Solve names settings quiet progress) seen f = IsSourceLeftAlone seen.input × SolveFailsOverFiles names settings seen.files seen.out f

@@ -17,6 +17,7 @@ use Rattle.crp_jobs.specs.declared.outcome.ToolFault.{ToolFault}
 use Rattle.crp_jobs.specs.declared.outcome.ToolFault.TheVariants as fault
 use Rattle.crp_jobs.specs.Names.{named_in_run}
 use Rattle.crp_jobs.specs.Opened.{FilesSeen, FilesFail, AreFilesKept, AreUnemptied, IsFileOpened, IsWanted, IsLeft, IsOneRefused, IsLeftAlone}
+use Rattle.crp_commands.specs.Lists.{IsListOpened}
 
 -- ---- the files of the outputs
 
@@ -95,7 +96,7 @@ IsOfRefused files names f = ⊥
 -- what each of the two sinks holds stands under the name that was given for it, unless it could not be finished; and no other file has changed. No file that it
 -- writes is known to be another one of its files, or to stand behind a standard stream
 pub record IsOverFiles (files : FilesSeen) (names : RunFiles) (out : SinkSeen) (u : Unfinished) (s : RunSeen) : Type 0 where
-  pub yard : IsFileOpened files.known names.yard.now s.yard
+  pub yard : IsListOpened files.known names.separator names.yard.now s.yard
   pub movins : IsFileOpened files.known names.movins.now s.movins
   pub report : s.report ≡ out
   pub certificates : IsWanted files.known (file_of names output.Certificates) u.certificates s.certificates

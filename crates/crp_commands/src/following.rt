@@ -14,10 +14,12 @@ ghost use Rattle.crp_jobs.specs.declared.outcome.ToolFault.TheVariants.{Run};
 ghost use Rattle.crp_report.specs.declared.fault.Fault.TheVariants.{Write};
 ghost use Rattle.crp_report.specs.declared.fault.Output.TheVariants.{YardAfter};
 ghost use Rattle.crp_commands.specs.Calls.{failures_of_tool_fault};
-ghost use Rattle.crp_commands.specs.Follow.{FollowEnds, FollowFails, FollowSeen, HasNoTexts, IsFollowInput, IsNoFollowInput, IsNoReport, StopsPage, StopsWriting, Texts, TextsSeen, WritesAll, WritesPart, WritesWhole, if_asked, loading_faults, made_for, numbers_for, order_for, source_failures, table_for};
+ghost use Rattle.crp_commands.specs.Follow.{FollowEnds, FollowFails, FollowSeen, HasNoTexts, IsFollowInput, IsNoFollowInput, IsNoReport, IsPartedList, StopsPage, StopsWriting, Texts, TextsSeen, WritesAll, WritesPart, WritesWhole, if_asked, loading_faults, made_for, numbers_for, order_for, source_failures, table_for};
+ghost use Rattle.crp_commands.specs.Lists.{with_separator};
 ghost use Rattle.crp_commands.specs.Noted.{IsNotedBy};
 
 use crate::auditing::{InputRead, input_from};
+use crate::lists::with_separator;
 use crate::partial::report_in;
 use crate::tables::table_for;
 use crp_follow::{FollowFault, Followed, MAX_BYTES, list_behind, move_counts};
@@ -50,6 +52,8 @@ pub struct FollowSettings<'a> {
     pub partial: bool,
     /// Whether the table is to be that of the bays, in place of that of the moves.
     pub summary: bool,
+    /// The byte between the fields of the table and of the list.
+    pub separator: u8,
 }
 
 /// Where a yard list and a message come from.
@@ -200,13 +204,15 @@ fn made_of(
     ensures followed { IfOk result (λ made. IsFollowed input.now.yard report.now made.followed.numbers (map bay_followed made.followed.bays.items)) }
     ensures faultless { IfOk result (λ made. loading_faults input.now.ship (map bay_followed made.followed.bays.items) ≡ []) }
     ensures list { IfOk result (λ made. IsTrue settings.now.list
-        → IsListBehind input.now.yard (made_for input.now.ship settings.now.loaded (map bay_followed made.followed.bays.items)) made.list.items) }
-    ensures table { IfOk result (λ made. made.table.items ≡ table_for settings.now.summary input.now.ship (map bay_followed made.followed.bays.items)) }
+        → IsPartedList settings.now.separator input.now.yard (made_for input.now.ship settings.now.loaded (map bay_followed made.followed.bays.items)) made.list.items) }
+    ensures table { IfOk result (λ made. made.table.items ≡ with_separator settings.now.separator (table_for settings.now.summary input.now.ship (map bay_followed made.followed.bays.items))) }
     ensures refused { IfErr result (HasNoTexts input.now.ship input.now.yard report.now) }
 {
     let followed = crp_follow::follow(alloc, &input.yard, report)?;
-    let table = table_for(alloc, &followed, &input.ship, settings.summary)?;
-    let list = list_if(alloc, input, &followed, settings)?;
+    let shown = table_for(alloc, &followed, &input.ship, settings.summary)?;
+    let table = with_separator(alloc, shown, settings.separator)?;
+    let left = list_if(alloc, input, &followed, settings)?;
+    let list = with_separator(alloc, left, settings.separator)?;
     Ok(FollowMade {
         followed,
         list,
@@ -396,8 +402,8 @@ pub fn follow<Y: Source, M: Source, R: Source, P: Sink, A: Sink, W: Sink, E: Sin
       movins = if_asked settings.now.ship (source_seen M.remaining M.failures listed.old.movins listed.new.movins);
       report = source_seen R.remaining R.failures report.old report.new;
       texts = texts;
-    } in MatchResult result (FollowEnds (record { input = settings.now.input.now; loaded = settings.now.loaded; partial = settings.now.partial; summary = settings.now.summary }) seen)
-        (FollowFails (record { input = settings.now.input.now; loaded = settings.now.loaded; partial = settings.now.partial; summary = settings.now.summary }) seen) }
+    } in MatchResult result (FollowEnds (record { input = settings.now.input.now; loaded = settings.now.loaded; partial = settings.now.partial; summary = settings.now.summary; separator = settings.now.separator }) seen)
+        (FollowFails (record { input = settings.now.input.now; loaded = settings.now.loaded; partial = settings.now.partial; summary = settings.now.summary; separator = settings.now.separator }) seen) }
     ensures unread { OnFalse settings.now.ship (listed.new.movins ≡ listed.old.movins) }
     ensures alone { OnFalse settings.now.page (files.new.page ≡ files.old.page) }
     ensures list_alone { OnFalse settings.now.list (files.new.list ≡ files.old.list) }

@@ -4,7 +4,8 @@
 //! same with lines that count its moves, `absent` from those of a yard list and a
 //! message to the list of what is ordered and not in the yard, `audit` from those of a yard list, a message, a report and certificates to
 //! what is shown of them, `follow` from those of a yard list and a report, and of a message where
-//! there is one, to the table of its moves, and to their page; `perform` does one of them over a file's bytes, and `run_job` any job
+//! there is one, to the table of its moves, and to their page, `compare` from those of a yard list and two reports to the table of their
+//! bays; `perform` does one of them over a file's bytes, and `run_job` any job
 //! over its files. What each writes is said in the file of `specs/` of its name, what a job does in `specs/Performing.antt`.
 #![tactic(auto)]
 
@@ -15,12 +16,15 @@ mod blocks;
 mod bounding;
 mod chain_line;
 mod checking;
+mod comparing;
 mod finishing;
 mod following;
 mod heads;
+mod lists;
 mod noting;
 mod over_absent_files;
 mod over_audit_files;
+mod over_compare_files;
 mod over_files;
 mod over_follow_files;
 mod over_yard_files;
@@ -36,6 +40,7 @@ pub use absences::absent;
 pub use auditing::{AuditSettings, MOST_REPORT, audit};
 pub use bounding::bound;
 pub use checking::check;
+pub use comparing::{CompareSettings, compare};
 pub use crp_notes::{Meter, Metered, NoTerminal, Terminal, begin_reading, clear_reading};
 pub use crp_report::Clock;
 pub use following::{FollowSettings, Listed, TextFiles, follow};

@@ -9,6 +9,7 @@ use crp_files::Files;
 use crp_jobs::{AbsentFiles, ToolFault};
 use crp_plan::Sink;
 use crp_report::{Fault, Input, InputSettings, Status};
+use crp_separated::ListInput;
 use std::alloc::Global;
 
 /// Opens the two files, before anything is read, and lists the containers that are ordered and not in the yard. The list goes to `out`.
@@ -23,14 +24,22 @@ pub fn absent_files<F: Files, W: Sink>(
         in let shown : SinkSeen = sink_seen W.contents W.failures out.old out.new
         in MatchResult result (AbsentReportsOverFiles names.now settings.now all shown) (AbsentFailsOverFiles names.now settings.now all shown) }
 {
-    let Ok(mut yard) = files.open(names.yard) else {
+    let Ok(list) = files.open(names.yard) else {
         return Err(ToolFault::Run(Fault::Read(Input::Yard)));
     };
     let Ok(mut movins) = files.open(names.movins) else {
         return Err(ToolFault::Run(Fault::Read(Input::Movins)));
     };
-    let answer = absent(alloc, &mut yard, &mut movins, settings, out);
-    files.close(yard);
+    let mut yard = ListInput::with_commas(list, names.separator);
+    let answer = absent(
+        alloc,
+        &mut yard,
+        &mut movins,
+        settings,
+        names.separator,
+        out,
+    );
+    files.close(yard.into_file());
     files.close(movins);
     answer
 }

@@ -11,6 +11,7 @@ use crp_jobs::{AuditFiles, Statement, ToolFault};
 use crp_notes::{Metered, Terminal, begin_reading, clear_reading};
 use crp_plan::Sink;
 use crp_report::{Fault, Input, InputSettings, Status};
+use crp_separated::ListInput;
 use std::alloc::Global;
 
 /// Opens the four files, before anything is read, and audits them. What is shown goes to `out`, what is noted of a report that ends early
@@ -30,7 +31,7 @@ pub fn audit_files<F: Files, W: Sink, E: Sink, S: Terminal>(
         in MatchResult result (AuditReportsOverFiles names.now settings.now all shown) (AuditFailsOverFiles names.now settings.now all shown) }
     ensures noted { IsNotedBy (not names.now.partial) (sink_seen E.contents E.failures errors.old errors.new) }
 {
-    let Ok(mut yard) = files.open(names.yard) else {
+    let Ok(list) = files.open(names.yard) else {
         return Err(ToolFault::Run(Fault::Read(Input::Yard)));
     };
     let Ok(mut movins) = files.open(names.movins) else {
@@ -47,6 +48,7 @@ pub fn audit_files<F: Files, W: Sink, E: Sink, S: Terminal>(
         source: certificates,
         terminal,
     };
+    let mut yard = ListInput::with_commas(list, names.separator);
     let asked = AuditSettings {
         input: settings,
         partial: names.partial,
@@ -62,7 +64,7 @@ pub fn audit_files<F: Files, W: Sink, E: Sink, S: Terminal>(
         errors,
     );
     clear_reading(terminal);
-    files.close(yard);
+    files.close(yard.into_file());
     files.close(movins);
     files.close(report);
     files.close(certificates.source);

@@ -5,6 +5,7 @@ ghost use Rattle.crp_sizes.specs.Fields.{IsTextOf};
 ghost use Rattle.crp_sizes.specs.Heights.{CanBeHeights};
 ghost use Rattle.crp_sizes.specs.Records.{IsSizesListOf};
 ghost use Rattle.crp_report.specs.Runs.{sink_seen};
+ghost use Rattle.crp_separated.specs.Inputs.{comma_list_of};
 ghost use Rattle.crp_jobs.specs.Opened.{FilesSeen};
 ghost use Rattle.crp_commands.specs.Noted.{IsNoted, IsNotedIn};
 ghost use Rattle.crp_commands.specs.Performing.{JobSeen, job_seen, ReportsFile, FileFailsWith, ReportsOverFiles, FailsOverFiles, unread_by};
@@ -12,6 +13,7 @@ ghost use Rattle.crp_commands.specs.Sized.{IsNoList, IsDone, IsFailed};
 
 use crate::over_absent_files::absent_files;
 use crate::over_audit_files::audit_files;
+use crate::over_compare_files::compare_files;
 use crate::over_follow_files::follow_files;
 use crate::over_yard_files::{RunAsked, Watcher, solve};
 use crate::performing::perform;
@@ -21,6 +23,7 @@ use crp_jobs::{FileCommand, Job, Statement, ToolFault};
 use crp_notes::{Metered, Stoppable, Terminal, begin_reading, clear_reading};
 use crp_plan::{Sink, Source};
 use crp_report::Status;
+use crp_separated::ListInput;
 use crp_sizes::{Sizes, sizes_from};
 use std::alloc::Global;
 use std::sync::Wait;
@@ -144,6 +147,10 @@ fn do_job<T: Threads + Wait + Sync, F: Files, R: Source, W: Sink, E: Sink, S: Te
             files: names,
             settings,
         } => follow_files(alloc, files, streams, names, settings),
+        Job::Compare {
+            files: names,
+            settings,
+        } => compare_files(alloc, files, streams, names, settings),
         Job::Solve {
             files: names,
             settings,
@@ -169,25 +176,27 @@ fn do_job<T: Threads + Wait + Sync, F: Files, R: Source, W: Sink, E: Sink, S: Te
     }
 }
 
-// The sizes that the list of this name has, and the common ones of bays that it has not.
+// The sizes that the list of this name has, with this byte between its fields, and the common ones of bays that it has not.
 fn sizes_of<F: Files>(
     alloc: Global,
     files: &mut F,
     name: &str,
+    separator: u8,
     common: &[u8],
 ) -> Result<Sizes, ToolFault>
     requires { CanBeHeights common.now }
-    ensures accepted { IfOk result (λ sizes. (text : List ℕ) × IsTextOf ((F.known files.old).given name.now) text × IsSizesListOf common.now text sizes) }
+    ensures accepted { IfOk result (λ sizes. (text : List ℕ) × IsTextOf (comma_list_of separator ((F.known files.old).given name.now)) text × IsSizesListOf common.now text sizes) }
     ensures read { OnOk result ((n : ℕ) × (n ≤ most_interruptions) × CountsMore n (F.failures files.old) (F.failures files.new)) }
     ensures refused { let seen : FilesSeen = record { known = F.known files.old; left = F.known files.new; before = F.failures files.old; after = F.failures files.new }
-        in IfErr result (IsNoList seen name.now) }
+        in IfErr result (IsNoList seen separator name.now) }
     ensures kept { F.known files.new ≡ F.known files.old }
 {
-    let Ok(mut list) = files.open(name) else {
+    let Ok(file) = files.open(name) else {
         return Err(ToolFault::ReadSizes);
     };
+    let mut list = ListInput::with_commas(file, separator);
     let sizes = sizes_from(alloc, &mut list, common);
-    files.close(list);
+    files.close(list.into_file());
     Ok(sizes?)
 }
 
@@ -215,7 +224,7 @@ pub fn run_job<T: Threads + Wait + Sync, F: Files, R: Source, W: Sink, E: Sink, 
     let Some((name, input)) = job.list_of_sizes() else {
         return do_job(threads, alloc, files, streams, job, terminal);
     };
-    let sizes = sizes_of(alloc, files, name, input.sizes().common())?;
+    let sizes = sizes_of(alloc, files, name, job.separator(), input.sizes().common())?;
     let sized = job.with_sizes(alloc, sizes)?;
     do_job(threads, alloc, files, streams, &sized, terminal)
 }

@@ -13,6 +13,7 @@ use crp_files::{Files, Named, Wanted, first_shared, prepare_wanted};
 use crp_jobs::{FollowFiles, Statement, ToolFault};
 use crp_plan::{Sink, Source};
 use crp_report::{Fault, Input, InputSettings, Output, Status};
+use crp_separated::ListInput;
 use std::alloc::Global;
 use std::marker::Brand;
 
@@ -79,6 +80,7 @@ fn follow_to<F: Files, Y: Source, M: Source, R: Source, W: Sink, E: Sink, P: Nam
         loaded,
         partial: names.partial,
         summary: names.summary,
+        separator: names.separator,
     };
     let answer = follow(alloc, listed, report, &settings, &mut texts, out, errors);
     let paged = texts.page.finish(files, names.page);
@@ -155,9 +157,10 @@ pub fn follow_files<F: Files, R: Source, W: Sink, E: Sink>(
         in MatchResult result (FollowReportsOverFiles names.now settings.now all given shown) (FollowFailsOverFiles names.now settings.now all given shown) }
     ensures noted { IsNotedBy (not names.now.partial && not (is_some names.now.movins)) (sink_seen E.contents E.failures streams.old.errors streams.new.errors) }
 {
-    let Ok(yard) = files.open(names.yard) else {
+    let Ok(list) = files.open(names.yard) else {
         return Err(ToolFault::Run(Fault::Read(Input::Yard)));
     };
+    let yard = ListInput::with_commas(list, names.separator);
     let asked = FollowAsked { names, settings };
     match names.movins {
         Some(name) => {
@@ -167,14 +170,14 @@ pub fn follow_files<F: Files, R: Source, W: Sink, E: Sink>(
             let mut listed = Listed { yard, movins };
             let answer = follow_report(alloc, files, &asked, &mut listed, streams);
             files.close(listed.movins);
-            files.close(listed.yard);
+            files.close(listed.yard.into_file());
             answer
         }
         None => {
             let movins: &[u8] = b"";
             let mut listed = Listed { yard, movins };
             let answer = follow_report(alloc, files, &asked, &mut listed, streams);
-            files.close(listed.yard);
+            files.close(listed.yard.into_file());
             answer
         }
     }

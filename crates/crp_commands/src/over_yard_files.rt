@@ -15,6 +15,7 @@ use crp_plan::{Nowhere, Sink};
 use crp_report::{
     Clock, Devices, Fault, Input, Output, RunSettings, Status, Unwatched, Watch, run_watched,
 };
+use crp_separated::ListInput;
 use std::alloc::Global;
 use std::marker::Brand;
 use std::sync::Wait;
@@ -70,7 +71,7 @@ fn solve_to<
     ensures shown { ShowsMore (E.contents errors.old) (E.contents errors.new) }
 {
     let names = asked.names;
-    let Ok(yard) = files.open(names.yard) else {
+    let Ok(list) = files.open(names.yard) else {
         return Err(ToolFault::Run(Fault::Read(Input::Yard)));
     };
     let Ok(movins) = files.open(names.movins) else {
@@ -88,7 +89,7 @@ fn solve_to<
         return Err(ToolFault::Run(Fault::Write(Output::YardAfter)));
     };
     let mut devices = Devices {
-        yard,
+        yard: ListInput::with_commas(list, names.separator),
         movins,
         certificates,
         yard_after,
@@ -105,7 +106,7 @@ fn solve_to<
     );
     let certified = devices.certificates.finish(files, names.cert);
     let left = devices.yard_after.finish(files, names.after);
-    files.close(devices.yard);
+    files.close(devices.yard.into_file());
     files.close(devices.movins);
     let answer = unless_unfinished(answer, certified, Fault::Write(Output::Certificates));
     of_job(unless_unfinished(answer, left, Fault::Write(Output::YardAfter)))

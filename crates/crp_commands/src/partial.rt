@@ -33,12 +33,14 @@ fn behind_words(bays: usize) -> &'static [u8]
     }
 }
 
-// The note that the last line is lacking.
-fn last_note(alloc: Global, bays: usize) -> Result<Vec<u8>, AllocError>
-    ensures { IfOk result (λ text. text.items ≡ last_note bays) }
+// The note that the last line is lacking of the report that is called so.
+fn last_note(alloc: Global, words: &[u8], bays: usize) -> Result<Vec<u8>, AllocError>
+    ensures { IfOk result (λ text. text.items ≡ last_note words.now bays) }
 {
     let mut text = Vec::new(alloc);
-    text.extend_from_slice(b"crp: note: the report has no last line: ")?;
+    text.extend_from_slice(b"crp: note: ")?;
+    text.extend_from_slice(words)?;
+    text.extend_from_slice(b" has no last line: ")?;
     push_decimal(&mut text, bays)?;
     text.extend_from_slice(standing_words(bays))?;
     Ok(text)
@@ -62,10 +64,10 @@ fn behind_note(alloc: Global, bays: usize) -> Result<Vec<u8>, AllocError>
 
 // Notes that the last line is lacking.
 #[tactic(auto, using(crate::proofs::Noted::shown_none))]
-fn note_last<E: Sink>(alloc: Global, bays: usize, errors: &mut E)
+fn note_last<E: Sink>(alloc: Global, words: &[u8], bays: usize, errors: &mut E)
     ensures { ShowsMore (E.contents errors.old) (E.contents errors.new) }
 {
-    if let Ok(text) = last_note(alloc, bays) {
+    if let Ok(text) = last_note(alloc, words, bays) {
         show(errors, &text);
     }
 }
@@ -80,11 +82,12 @@ pub(crate) fn note_behind<E: Sink>(alloc: Global, bays: usize, errors: &mut E)
     }
 }
 
-/// The report that a text is. One that may end early gets its last line where that is lacking, which is noted.
+/// The report that a text is. One that may end early gets its last line where that is lacking, which is noted of a report that is called so.
 #[tactic(auto, using(crate::proofs::Noted::unnoted))]
-pub(crate) fn report_in<E: Sink>(
+pub(crate) fn whole_in<E: Sink>(
     alloc: Global,
     text: Vec<u8>,
+    words: &[u8],
     partial: bool,
     errors: &mut E,
 ) -> Result<Completed, AllocError>
@@ -96,7 +99,20 @@ pub(crate) fn report_in<E: Sink>(
     }
     let whole = complete(alloc, text)?;
     if let Some(bays) = whole.bays {
-        note_last(alloc, bays, errors);
+        note_last(alloc, words, bays, errors);
     }
     Ok(whole)
+}
+
+/// The same of the only report that there is.
+pub(crate) fn report_in<E: Sink>(
+    alloc: Global,
+    text: Vec<u8>,
+    partial: bool,
+    errors: &mut E,
+) -> Result<Completed, AllocError>
+    ensures report { IfOk result (λ whole. IsReportIn partial text.items whole.text.items whole.bays) }
+    ensures noted { IsNotedBy (not partial) (sink_seen E.contents E.failures errors.old errors.new) }
+{
+    whole_in(alloc, text, b"the report", partial, errors)
 }

@@ -43,10 +43,12 @@ pub fn perform<T: Threads + Wait + Sync, S: Terminal + Sync, R: Source, W: Sink,
 {
     match command {
         FileCommand::Replay => replay(alloc, reader, writer),
-        FileCommand::Bound { chains } => bound(alloc, reader, writer, *chains),
-        FileCommand::Check { any_size, workers } => check(
-            rt, alloc, reader, writer, errors, *any_size, *workers,
-        ),
+        FileCommand::Bound { chains, .. } => bound(alloc, reader, writer, *chains),
+        FileCommand::Check {
+            any_size,
+            workers,
+            ..
+        } => check(rt, alloc, reader, writer, errors, *any_size, *workers),
         FileCommand::Prove(search) => prove(rt, alloc, terminal, reader, writer, *search),
         FileCommand::Rewrite => rewrite(alloc, reader, writer),
     }

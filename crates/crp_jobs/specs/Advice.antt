@@ -11,6 +11,7 @@ use Rattle.crp_jobs.specs.declared.job.Job.TheVariants as job
 use Rattle.crp_jobs.specs.declared.job.RunFiles.{RunFiles}
 use Rattle.crp_jobs.specs.declared.job.AbsentFiles.{AbsentFiles}
 use Rattle.crp_jobs.specs.declared.job.AuditFiles.{AuditFiles}
+use Rattle.crp_jobs.specs.declared.job.CompareFiles.{CompareFiles}
 use Rattle.crp_jobs.specs.declared.job.FollowFiles.{FollowFiles}
 use Rattle.crp_jobs.specs.declared.outcome.Statement.{Statement}
 use Rattle.crp_jobs.specs.declared.outcome.Statement.TheVariants as statement
@@ -120,6 +121,15 @@ failed_in_follow names fault.WriteTable = Some (codes "look at the standard outp
 failed_in_follow names fault.WritePage = option_map (λ name. file_words name.now) names.page
 failed_in_follow names f = None
 
+-- the same where two reports of these files are compared: the table goes to the standard output
+abbrev pub failed_in_compare : CompareFiles → ToolFault → Option (List ℕ)
+failed_in_compare names (fault.Run (run.Read input.Yard)) = Some (file_words names.yard.now)
+failed_in_compare names (fault.ReadOf statement.Report) = Some (source_words names.report.now)
+failed_in_compare names fault.ReadSecond = Some (source_words names.second.now)
+failed_in_compare names fault.ReadSizes = option_map (λ name. file_words name.now) names.sizes
+failed_in_compare names fault.WriteTable = Some (codes "look at the standard output")
+failed_in_compare names f = None
+
 -- what the job could not read or write, or which of its files are one, in words, where the fault is of that kind
 abbrev pub failed_words : Job → ToolFault → Option (List ℕ)
 failed_words (job.OneFile file command stop) f = failed_in_file file.now f
@@ -127,6 +137,7 @@ failed_words (job.Absent names settings) f = failed_in_absent names f
 failed_words (job.Audit names settings) f = failed_in_audit names f
 failed_words (job.Follow names settings) (fault.OneFile s) = shared_words (named_in_follow names) s
 failed_words (job.Follow names settings) f = failed_in_follow names f
+failed_words (job.Compare names settings) f = failed_in_compare names f
 failed_words (job.Solve names settings quiet progress) (fault.Run f) = failed_in_run names f
 failed_words (job.Solve names settings quiet progress) (fault.OneFile s) = shared_words (named_in_run names) s
 failed_words (job.Solve names settings quiet progress) fault.ReadSizes = option_map (λ name. file_words name.now) names.sizes

@@ -59,6 +59,7 @@ yard_named (job.OneFile file command stop) = None
 yard_named (job.Absent names settings) = Some names.yard.now
 yard_named (job.Audit names settings) = Some names.yard.now
 yard_named (job.Follow names settings) = Some names.yard.now
+yard_named (job.Compare names settings) = Some names.yard.now
 yard_named (job.Solve names settings quiet progress) = Some names.yard.now
 
 -- its list of sizes
@@ -67,6 +68,7 @@ sizes_named (job.OneFile file command stop) = None
 sizes_named (job.Absent names settings) = option_map (λ name. name.now) names.sizes
 sizes_named (job.Audit names settings) = option_map (λ name. name.now) names.sizes
 sizes_named (job.Follow names settings) = option_map (λ name. name.now) names.sizes
+sizes_named (job.Compare names settings) = option_map (λ name. name.now) names.sizes
 sizes_named (job.Solve names settings quiet progress) = option_map (λ name. name.now) names.sizes
 
 -- the sizes of bays that it was given: those of all, where it names no list
@@ -75,6 +77,7 @@ sizes_of (job.OneFile file command stop) = None
 sizes_of (job.Absent names settings) = Some settings.sizes
 sizes_of (job.Audit names settings) = Some settings.sizes
 sizes_of (job.Follow names settings) = Some settings.sizes
+sizes_of (job.Compare names settings) = Some settings.sizes
 sizes_of (job.Solve names settings quiet progress) = Some settings.input.sizes
 
 -- its message
@@ -83,19 +86,26 @@ message_named (job.OneFile file command stop) = None
 message_named (job.Absent names settings) = Some names.movins.now
 message_named (job.Audit names settings) = Some names.movins.now
 message_named (job.Follow names settings) = option_map (λ name. name.now) names.movins
+message_named (job.Compare names settings) = None
 message_named (job.Solve names settings quiet progress) = Some names.movins.now
 
 -- its report; one that is followed and is read from the standard input has no name
 abbrev pub report_named : Job → Option (List ℕ)
 report_named (job.OneFile file command.Rewrite stop) = report_name file.now
 report_named (job.OneFile file command.Replay stop) = None
-report_named (job.OneFile file (command.Bound chains) stop) = None
-report_named (job.OneFile file (command.Check any_size workers) stop) = None
+report_named (job.OneFile file (command.Bound chains json) stop) = None
+report_named (job.OneFile file (command.Check any_size workers json) stop) = None
 report_named (job.OneFile file (command.Prove search) stop) = None
 report_named (job.Absent names settings) = None
 report_named (job.Audit names settings) = Some names.report.now
 report_named (job.Follow names settings) = report_name names.report.now
+report_named (job.Compare names settings) = report_name names.report.now
 report_named (job.Solve names settings quiet progress) = None
+
+-- its second report, where it compares two
+abbrev pub second_named : Job → Option (List ℕ)
+second_named (job.Compare names settings) = report_name names.second.now
+second_named j = None
 
 -- ---- what is said of it
 

@@ -65,7 +65,7 @@ pub fn advice_on(fault: &ToolFault) -> &'static str
         ToolFault::Plan(fault) => advice_on_plan(fault),
         ToolFault::Checked { refused, .. } => advice_on_refused(refused),
         ToolFault::Audited(fault) => advice_on_audit(fault),
-        ToolFault::Followed(fault) => advice_on_follow(fault),
+        ToolFault::Followed(fault) | ToolFault::Second(fault) => advice_on_follow(fault),
         ToolFault::Loaded(fault) => advice_on_loading(fault),
         ToolFault::Sizes(fault) => advice_on_sizes(fault),
         ToolFault::Run(fault) => advice_on_run(fault),
@@ -74,6 +74,9 @@ pub fn advice_on(fault: &ToolFault) -> &'static str
         }
         ToolFault::ReadOf(Statement::Certificates) => CERTIFICATE_NOT_READ,
         ToolFault::ReadSizes => SIZES_NOT_READ,
+        ToolFault::ReadSecond => {
+            "the second report could not be read: it must be there, be a file and no folder, and you must be allowed to read it"
+        }
         ToolFault::TooLargeOf(Statement::Report) => "a report may have at most 16777216 bytes",
         ToolFault::TooLargeOf(Statement::Certificates) => {
             "certificates may have at most 9223372036854775808 bytes"

@@ -1,8 +1,8 @@
 //! Where a read or a write of a job failed, the file by its name or the standard input or output; and which of its files are one.
 ghost use Rattle.std.specs.Prelude.{◌≡◌, Some, option_map};
-ghost use Rattle.crp_jobs.specs.Advice.{failed_in_absent, failed_in_audit, failed_in_file, failed_in_follow, failed_in_run, failed_words, place_words, shared_words, source_words, stream_words};
+ghost use Rattle.crp_jobs.specs.Advice.{failed_in_absent, failed_in_audit, failed_in_compare, failed_in_file, failed_in_follow, failed_in_run, failed_words, place_words, shared_words, source_words, stream_words};
 
-use crate::job::{AbsentFiles, AuditFiles, FollowFiles, Job, RunFiles};
+use crate::job::{AbsentFiles, AuditFiles, CompareFiles, FollowFiles, Job, RunFiles};
 use crate::names::after_name;
 use crate::outcome::{Statement, ToolFault};
 use crp_files::{JobNames, Role, Shared};
@@ -64,9 +64,11 @@ fn place_in_file<'a>(file: &'a str, fault: &ToolFault) -> Option<Place<'a>>
         | ToolFault::Checked { .. }
         | ToolFault::Audited(_)
         | ToolFault::Followed(_)
+        | ToolFault::Second(_)
         | ToolFault::Loaded(_)
         | ToolFault::Sizes(_)
         | ToolFault::ReadSizes
+        | ToolFault::ReadSecond
         | ToolFault::Run(_)
         | ToolFault::WriteTable
         | ToolFault::WritePage
@@ -159,6 +161,20 @@ fn place_in_follow<'a>(names: &FollowFiles<'a>, fault: &ToolFault) -> Option<Pla
     }
 }
 
+// What could not be read or written where these files are compared.
+fn place_in_compare<'a>(names: &CompareFiles<'a>, fault: &ToolFault) -> Option<Place<'a>>
+    ensures { option_map place_words result ≡ failed_in_compare names.now fault.now }
+{
+    match fault {
+        ToolFault::Run(Fault::Read(Input::Yard)) => Some(Place::File(names.yard)),
+        ToolFault::ReadOf(Statement::Report) => Some(source_of(names.report)),
+        ToolFault::ReadSecond => Some(source_of(names.second)),
+        ToolFault::ReadSizes => names.sizes.map(Place::File),
+        ToolFault::WriteTable => Some(Place::StandardOutput),
+        _ => None,
+    }
+}
+
 /// What the job could not read or write, where the fault is that a read or a write failed, or that a file could not be opened; or which of
 /// its files are one, where that is the fault.
 pub fn place_of<'a>(job: &'a Job<'_>, fault: &ToolFault) -> Option<Place<'a>>
@@ -172,6 +188,7 @@ pub fn place_of<'a>(job: &'a Job<'_>, fault: &ToolFault) -> Option<Place<'a>>
             ToolFault::OneFile(shared) => place_shared(files, shared),
             _ => place_in_follow(files, fault),
         },
+        Job::Compare { files, .. } => place_in_compare(files, fault),
         Job::Solve { files, .. } => match fault {
             ToolFault::Run(fault) => place_in_run(files, fault),
             ToolFault::OneFile(shared) => place_shared(files, shared),

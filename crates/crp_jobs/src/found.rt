@@ -1,12 +1,13 @@
 //! What a file looks like that was refused in the place of another, or where in it the fault stands: a line behind the advice.
-ghost use Rattle.std.specs.Prelude.{IfSome};
+ghost use Rattle.std.specs.Prelude.{◌≡◌, IfSome};
 ghost use Rattle.crp_jobs.specs.Found.{IsPlainText};
 ghost use Rattle.crp_jobs.specs.FaultLines.{IsPlacedLine};
+ghost use Rattle.crp_jobs.specs.Sized.{separator_of};
 
 use crate::job::Job;
 use crate::list_lines::{line_on_sizes, line_on_yard};
 use crate::message_lines::{line_on_interchange, line_on_message};
-use crate::named::{message_named, report_named, sizes_named, yard_named};
+use crate::named::{message_named, report_named, second_named, sizes_named, yard_named};
 use crate::outcome::ToolFault;
 use crate::plain::FoundLine;
 use crate::report_faults::{line_on_audit, line_on_follow, line_on_loading};
@@ -14,9 +15,20 @@ use crp_files::Files;
 use crp_report::Fault;
 use std::alloc::Global;
 
+// That commas stand between the fields of the lists of a job, where they do.
+fn has_commas(job: &Job<'_>) -> Option<()>
+    ensures { IfSome result (λ _. separator_of job.now ≡ 44) }
+{
+    if job.separator() == b',' {
+        Some(())
+    } else {
+        None
+    }
+}
+
 /// What the fault of an input is about, in a line. Of a list without its header, and of a message or a report that is none, what the
 /// file looks like where that may tell more than the fault; otherwise the line of the file in which the record, the segment or the offset
-/// stands that the fault names, and what stands there.
+/// stands that the fault names, and what stands there. Of a list without commas between its fields nothing is said.
 pub fn found_line<F: Files>(
     alloc: Global,
     files: &F,
@@ -28,9 +40,13 @@ pub fn found_line<F: Files>(
 {
     match fault {
         ToolFault::Run(Fault::Yard(fault)) => {
+            has_commas(job)?;
             line_on_yard(alloc, files, job, yard_named(job)?, fault)
         }
-        ToolFault::Sizes(fault) => line_on_sizes(alloc, files, sizes_named(job)?, fault),
+        ToolFault::Sizes(fault) => {
+            has_commas(job)?;
+            line_on_sizes(alloc, files, sizes_named(job)?, fault)
+        }
         ToolFault::Run(Fault::Interchange(fault)) => {
             line_on_interchange(alloc, files, message_named(job)?, fault)
         }
@@ -38,6 +54,7 @@ pub fn found_line<F: Files>(
             line_on_message(alloc, files, message_named(job)?, fault)
         }
         ToolFault::Followed(fault) => line_on_follow(alloc, files, job, report_named(job)?, fault),
+        ToolFault::Second(fault) => line_on_follow(alloc, files, job, second_named(job)?, fault),
         ToolFault::Loaded(fault) => line_on_loading(alloc, files, report_named(job)?, fault),
         ToolFault::Audited(fault) => {
             line_on_audit(alloc, files, job, report_named(job)?, fault)

@@ -1,8 +1,8 @@
 //! What the program may be asked for.
 
 ghost use Rattle.std.specs.Prelude.{◌≡◌, IfOk, option_map};
-ghost use Rattle.crp_jobs.specs.Printed.{is_json};
-ghost use Rattle.crp_jobs.specs.Sized.{list_named, with_sizes};
+ghost use Rattle.crp_jobs.specs.Printed.{is_json, is_json_by};
+ghost use Rattle.crp_jobs.specs.Sized.{list_named, separator_of, with_sizes};
 
 use crp_report::{InputSettings, RunSettings};
 use crp_sizes::Sizes;
@@ -18,6 +18,8 @@ pub enum FileCommand {
     Bound {
         /// Whether one by chains of containers is printed too.
         chains: bool,
+        /// Whether they are to be printed as JSON Lines.
+        json: bool,
     },
     /// To check a file of certificates.
     Check {
@@ -25,6 +27,8 @@ pub enum FileCommand {
         any_size: bool,
         /// How many workers check it, side by side.
         workers: u32,
+        /// Whether what it shows is to be printed as JSON Lines.
+        json: bool,
     },
     /// To solve the problem of a certificate's head, by this search.
     Prove(Settings),
@@ -49,6 +53,8 @@ pub struct RunFiles<'a> {
     pub stop: Option<&'a str>,
     /// Whether the report is to be printed as JSON Lines.
     pub json: bool,
+    /// The byte between the fields of its lists: a comma, unless another one is asked for.
+    pub separator: u8,
 }
 
 /// The files of an audit, by their names.
@@ -66,6 +72,10 @@ pub struct AuditFiles<'a> {
     pub partial: bool,
     /// The certificates.
     pub certificates: &'a str,
+    /// The byte between the fields of its lists: a comma, unless another one is asked for.
+    pub separator: u8,
+    /// Whether what is found is to be printed as JSON Lines.
+    pub json: bool,
 }
 
 /// The files of a list of absent containers, by their names.
@@ -77,6 +87,8 @@ pub struct AbsentFiles<'a> {
     pub sizes: Option<&'a str>,
     /// The message.
     pub movins: &'a str,
+    /// The byte between the fields of its lists: a comma, unless another one is asked for.
+    pub separator: u8,
 }
 
 /// What gets the yard as the moves of a report leave it.
@@ -107,6 +119,25 @@ pub struct FollowFiles<'a> {
     pub page: Option<&'a str>,
     /// What gets the yard as its moves leave it, if it is wanted.
     pub after: Option<AfterFile<'a>>,
+    /// The byte between the fields of its lists: a comma, unless another one is asked for.
+    pub separator: u8,
+}
+
+/// The files of two reports that are compared, by their names.
+#[derive(Clone, Copy)]
+pub struct CompareFiles<'a> {
+    /// The yard list.
+    pub yard: &'a str,
+    /// The list of sizes, if bays have others than the common one.
+    pub sizes: Option<&'a str>,
+    /// The report. One named `-` is the standard input.
+    pub report: &'a str,
+    /// The second report. One named `-` is the standard input, unless the first one is.
+    pub second: &'a str,
+    /// Whether they may end early, without their last lines.
+    pub partial: bool,
+    /// The byte between the fields of lists.
+    pub separator: u8,
 }
 
 /// What the program is to do.
@@ -142,6 +173,13 @@ pub enum Job<'a> {
         /// What the yard list and the message mean.
         settings: InputSettings,
     },
+    /// To compare two reports, whose moves are followed over one yard.
+    Compare {
+        /// The files of the two reports.
+        files: CompareFiles<'a>,
+        /// What the yard list means.
+        settings: InputSettings,
+    },
     /// To solve the bays of a yard for the load orders of a message.
     Solve {
         /// The files of the run.
@@ -155,16 +193,42 @@ pub enum Job<'a> {
     },
 }
 
+impl FileCommand {
+    /// Whether what it writes is to be printed as JSON Lines.
+    pub fn is_json(&self) -> bool
+        ensures { result ≡ is_json_by self.now }
+    {
+        match self {
+            FileCommand::Bound { json, .. } | FileCommand::Check { json, .. } => *json,
+            FileCommand::Replay | FileCommand::Prove(_) | FileCommand::Rewrite => false,
+        }
+    }
+}
+
 impl<'a> Job<'a> {
-    /// Whether a report is to be printed as JSON Lines.
+    /// Whether what it writes is to be printed as JSON Lines.
     pub fn is_json(&self) -> bool
         ensures { result ≡ is_json self.now }
     {
         match self {
+            Job::OneFile { command, .. } => command.is_json(),
+            Job::Audit { files, .. } => files.json,
             Job::Solve { files, .. } => files.json,
-            Job::OneFile { .. } | Job::Absent { .. } | Job::Audit { .. } | Job::Follow { .. } => {
-                false
-            }
+            Job::Absent { .. } | Job::Follow { .. } | Job::Compare { .. } => false,
+        }
+    }
+
+    /// The byte between the fields of its lists, of which one over the bytes of one file has none.
+    pub fn separator(&self) -> u8
+        ensures { result ≡ separator_of self.now }
+    {
+        match self {
+            Job::OneFile { .. } => b',',
+            Job::Absent { files, .. } => files.separator,
+            Job::Audit { files, .. } => files.separator,
+            Job::Follow { files, .. } => files.separator,
+            Job::Compare { files, .. } => files.separator,
+            Job::Solve { files, .. } => files.separator,
         }
     }
 
@@ -177,6 +241,7 @@ impl<'a> Job<'a> {
             Job::Absent { files, settings } => Some((files.sizes?, settings)),
             Job::Audit { files, settings } => Some((files.sizes?, settings)),
             Job::Follow { files, settings } => Some((files.sizes?, settings)),
+            Job::Compare { files, settings } => Some((files.sizes?, settings)),
             Job::Solve {
                 files,
                 settings,
@@ -208,6 +273,10 @@ impl<'a> Job<'a> {
                 settings: settings.sized(alloc, sizes)?,
             },
             Job::Follow { files, settings } => Job::Follow {
+                files: *files,
+                settings: settings.sized(alloc, sizes)?,
+            },
+            Job::Compare { files, settings } => Job::Compare {
                 files: *files,
                 settings: settings.sized(alloc, sizes)?,
             },

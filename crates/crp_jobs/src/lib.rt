@@ -36,7 +36,9 @@ mod sizes_advice;
 pub use advice::advice_on;
 pub use failed::{Place, place_of};
 pub use found::found_line;
-pub use job::{AbsentFiles, AfterFile, AuditFiles, FileCommand, FollowFiles, Job, RunFiles};
+pub use job::{
+    AbsentFiles, AfterFile, AuditFiles, CompareFiles, FileCommand, FollowFiles, Job, RunFiles,
+};
 pub use kinds::{Found, found_in};
 pub use outcome::{Statement, ToolFault, exit_of};
 pub use plain::{FoundLine, MOST_FOUND};

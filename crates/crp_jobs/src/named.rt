@@ -1,7 +1,7 @@
 //! What a fault of a message names of its text, an offset or a segment; and the files of a job, by their names.
 ghost use Rattle.std.specs.Prelude.{◌≡◌, option_map};
 ghost use Rattle.crp_jobs.specs.Names.{report_name};
-ghost use Rattle.crp_jobs.specs.Placed.{again_named, message_named, offset_named, report_named, segment_named, sizes_named, sizes_of, yard_named};
+ghost use Rattle.crp_jobs.specs.Placed.{again_named, message_named, offset_named, report_named, second_named, segment_named, sizes_named, sizes_of, yard_named};
 
 use crate::job::{FileCommand, Job};
 use crp_movins::MovinsFault;
@@ -77,6 +77,7 @@ pub(crate) fn yard_named<'a>(job: &Job<'a>) -> Option<&'a str>
         Job::Absent { files, .. } => Some(files.yard),
         Job::Audit { files, .. } => Some(files.yard),
         Job::Follow { files, .. } => Some(files.yard),
+        Job::Compare { files, .. } => Some(files.yard),
         Job::OneFile { .. } => None,
     }
 }
@@ -90,6 +91,7 @@ pub(crate) fn sizes_named<'a>(job: &Job<'a>) -> Option<&'a str>
         Job::Absent { files, .. } => files.sizes,
         Job::Audit { files, .. } => files.sizes,
         Job::Follow { files, .. } => files.sizes,
+        Job::Compare { files, .. } => files.sizes,
         Job::OneFile { .. } => None,
     }
 }
@@ -103,6 +105,7 @@ pub(crate) fn sizes_of<'a>(job: &'a Job<'_>) -> Option<&'a Sizes>
         Job::Absent { settings, .. } => Some(settings.sizes()),
         Job::Audit { settings, .. } => Some(settings.sizes()),
         Job::Follow { settings, .. } => Some(settings.sizes()),
+        Job::Compare { settings, .. } => Some(settings.sizes()),
         Job::OneFile { .. } => None,
     }
 }
@@ -116,7 +119,7 @@ pub(crate) fn message_named<'a>(job: &Job<'a>) -> Option<&'a str>
         Job::Absent { files, .. } => Some(files.movins),
         Job::Audit { files, .. } => Some(files.movins),
         Job::Follow { files, .. } => files.movins,
-        Job::OneFile { .. } => None,
+        Job::Compare { .. } | Job::OneFile { .. } => None,
     }
 }
 
@@ -134,6 +137,7 @@ pub(crate) fn report_named<'a>(job: &Job<'a>) -> Option<&'a str>
     match job {
         Job::Audit { files, .. } => Some(files.report),
         Job::Follow { files, .. } => report_name(files.report),
+        Job::Compare { files, .. } => report_name(files.report),
         Job::OneFile { file, command, .. } => match command {
             FileCommand::Rewrite => report_name(file),
             FileCommand::Replay
@@ -142,5 +146,19 @@ pub(crate) fn report_named<'a>(job: &Job<'a>) -> Option<&'a str>
             | FileCommand::Prove(_) => None,
         },
         Job::Absent { .. } | Job::Solve { .. } => None,
+    }
+}
+
+/// Its second report.
+pub(crate) fn second_named<'a>(job: &Job<'a>) -> Option<&'a str>
+    ensures { option_map (λ name. name.now) result ≡ second_named job.now }
+{
+    match job {
+        Job::Compare { files, .. } => report_name(files.second),
+        Job::OneFile { .. }
+        | Job::Absent { .. }
+        | Job::Audit { .. }
+        | Job::Follow { .. }
+        | Job::Solve { .. } => None,
     }
 }

@@ -55,6 +55,9 @@ pub enum ToolFault {
     /// A report cannot be followed, with its first fault.
     #[error("{0}")]
     Followed(FollowFault),
+    /// The second of two reports that are compared cannot be followed, with its first fault.
+    #[error("the second report: {0}")]
+    Second(FollowFault),
     /// The takes of a report that is followed do not load the ship in its order, with the first fault.
     #[error("{0}")]
     Loaded(LoadingFault),
@@ -82,6 +85,9 @@ pub enum ToolFault {
     /// A read of what is audited or followed failed, or was interrupted once too often; also a file that cannot be opened.
     #[error("a read of {0} failed")]
     ReadOf(Statement),
+    /// A read of the second of two reports failed, or was interrupted once too often; also a file that cannot be opened.
+    #[error("a read of the second report failed")]
+    ReadSecond,
     /// What is audited has more bytes than are allowed.
     #[error("{0}: too many bytes")]
     TooLargeOf(Statement),
@@ -249,6 +255,7 @@ pub fn exit_of(answer: &Result<Status, ToolFault>) -> u8
             ToolFault::TooLarge
             | ToolFault::TooLargeOf(_)
             | ToolFault::Followed(_)
+            | ToolFault::Second(_)
             | ToolFault::Loaded(_)
             | ToolFault::Sizes(_),
         ) => 3,
@@ -256,6 +263,7 @@ pub fn exit_of(answer: &Result<Status, ToolFault>) -> u8
         Err(
             ToolFault::Read
             | ToolFault::ReadOf(_)
+            | ToolFault::ReadSecond
             | ToolFault::ReadSizes
             | ToolFault::Write
             | ToolFault::WriteTable

@@ -4,5 +4,8 @@ pub mod Chained
 pub mod Naming
 pub mod Growing
 pub mod Showing
+pub mod CheckLines
+pub mod ChainLines
+pub mod BoundLines
 pub mod NoEntry
 pub mod OneJson

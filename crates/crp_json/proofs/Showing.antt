@@ -10,24 +10,25 @@ use Rattle.crp_plan.specs.declared.device.Failure.{Failure}
 use Rattle.crp_plan.specs.Devices.{CountsWrite}
 use Rattle.crp_cert.proofs.Joined.{all_both}
 use Rattle.crp_json.specs.declared.entry.Entry.{Entry}
-use Rattle.crp_json.specs.Entries.{entry_text, IsEntry}
-use Rattle.crp_json.specs.Lines.{entry_line, report_of}
-use Rattle.crp_json.specs.Shown.{holds_in, opening, lines_of, IsShown, IsAnswer}
-use Rattle.crp_json.proofs.Growing.{one_more, lines_more}
+use Rattle.crp_json.specs.declared.entry.Printed.{Printed}
+use Rattle.crp_json.specs.Entries.{IsPiece}
+use Rattle.crp_json.specs.Lines.{report_of, json_of}
+use Rattle.crp_json.specs.Shown.{entries_in, holds_in, opening, lines_of, IsShown, IsAnswer}
+use Rattle.crp_json.proofs.Growing.{report_more, lines_more}
 
 -- it then holds the piece too
-pub appended : (held holds new_holds : Option (List ℕ)) (first : Option (List ℕ)) (failed : ℕ) (r : Result ℕ Failure) (entries new_entries : List Entry) (piece : List ℕ)
-    → IsAnswer first failed r entries new_entries holds new_holds piece
-    → WriteAppends (holds_in held holds entries first) (holds_in held new_holds new_entries first) r piece
-appended held holds new_holds None failed r entries new_entries piece a = a.1
-appended None holds new_holds (Some line) failed (Ok n) entries new_entries piece a = tt
-appended (Some before) holds new_holds (Some line) failed (Ok n) entries new_entries piece a =
+pub appended : (printed : Printed) (held holds new_holds : Option (List ℕ)) (first : Option (List ℕ)) (failed : ℕ) (r : Result ℕ Failure) (pieces new_pieces : List (List Entry)) (piece : List ℕ)
+    → IsAnswer printed first failed r pieces new_pieces holds new_holds piece
+    → WriteAppends (holds_in held holds pieces first) (holds_in held new_holds new_pieces first) r piece
+appended printed held holds new_holds None failed r pieces new_pieces piece a = a.1
+appended printed None holds new_holds (Some line) failed (Ok n) pieces new_pieces piece a = tt
+appended printed (Some before) holds new_holds (Some line) failed (Ok n) pieces new_pieces piece a =
     let k = a.2 in
     let all : take n piece ≡ piece = take_all n piece (omega (arith, a.0)) in
-    ap (λ (es : List Entry). before ++ report_of es) k.added ∙ ap (λ l. before ++ l) (one_more entry_text entries k.entry)
-    ∙ sym (append_assoc before (report_of entries) (entry_text k.entry)) ∙ ap (λ l. (before ++ report_of entries) ++ l) (sym k.is ∙ sym all)
-appended None holds new_holds (Some line) failed (Err e) entries new_entries piece a = tt
-appended (Some before) holds new_holds (Some line) failed (Err e) entries new_entries piece a = ap (λ (es : List Entry). before ++ report_of es) a
+    ap (λ (ps : List (List Entry)). before ++ report_of (entries_in ps)) k.added ∙ ap (λ l. before ++ l) (report_more pieces k.entries)
+    ∙ sym (append_assoc before (report_of (entries_in pieces)) (report_of k.entries)) ∙ ap (λ l. (before ++ report_of (entries_in pieces)) ++ l) (sym k.is ∙ sym all)
+appended printed None holds new_holds (Some line) failed (Err e) pieces new_pieces piece a = tt
+appended printed (Some before) holds new_holds (Some line) failed (Err e) pieces new_pieces piece a = ap (λ (ps : List (List Entry)). before ++ report_of (entries_in ps)) a
 
 -- a count that is 0 behind a failure cannot be
 not_none : (failed : ℕ) → 0 ≡ failed + min 1 (2 ^ 64 - 1 - failed) → ⊥
@@ -40,26 +41,27 @@ grown None new_holds before bytes more e a = absurd (none-some _ e)
 grown (Some xs) None before bytes more e a = absurd a
 grown (Some xs) (Some ys) before bytes more e a = ap Some (a ∙ ap (λ l. l ++ more) (same_Some xs (before ++ bytes) e) ∙ append_assoc before bytes more)
 
-pub shown_on : (held holds new_holds : Option (List ℕ)) (first : Option (List ℕ)) (failed new_failed : ℕ) (r : Result ℕ Failure) (entries new_entries : List Entry) (piece : List ℕ)
-    → IsShown held (record { first = first; entries = entries; holds = holds; failures = failed })
-    → IsAnswer first failed r entries new_entries holds new_holds piece → CountsWrite failed new_failed r piece
-    → IsShown held (record { first = first; entries = new_entries; holds = new_holds; failures = new_failed })
-shown_on held holds new_holds None failed new_failed r entries new_entries piece s a counted = record {
-  each = subst (λ (es : List Entry). ∥ AllByRecursion IsEntry es ∥₁) (sym a.0) s.each;
+pub shown_on : (printed : Printed) (held holds new_holds : Option (List ℕ)) (first : Option (List ℕ)) (failed new_failed : ℕ) (r : Result ℕ Failure) (pieces new_pieces : List (List Entry)) (piece : List ℕ)
+    → IsShown held (record { printed = printed; first = first; pieces = pieces; holds = holds; failures = failed })
+    → IsAnswer printed first failed r pieces new_pieces holds new_holds piece → CountsWrite failed new_failed r piece
+    → IsShown held (record { printed = printed; first = first; pieces = new_pieces; holds = new_holds; failures = new_failed })
+shown_on printed held holds new_holds None failed new_failed r pieces new_pieces piece s a counted = record {
+  each = subst (λ (ps : List (List Entry)). ∥ AllByRecursion (IsPiece printed) ps ∥₁) (sym a.0) s.each;
   lines = λ before line is asked none. absurd (none-some line asked);
 }
-shown_on held holds new_holds (Some first) failed new_failed (Ok n) entries new_entries piece s a counted =
+shown_on printed held holds new_holds (Some first) failed new_failed (Ok n) pieces new_pieces piece s a counted =
     let k = a.2 in
     record {
-      each = subst (λ (es : List Entry). ∥ AllByRecursion IsEntry es ∥₁) (sym k.added) (∥∥₁_map s.each (λ all. all_both IsEntry entries (k.entry ∷ []) all (k.is_entry, tt)));
+      each = subst (λ (ps : List (List Entry)). ∥ AllByRecursion (IsPiece printed) ps ∥₁) (sym k.added)
+          (∥∥₁_map s.each (λ all. all_both (IsPiece printed) pieces (k.entries ∷ []) all (k.is_piece, tt)));
       lines = λ before line is asked none.
           (let same = same_Some first line asked in
           let old = s.lines before first is refl a.1 in
-          grown holds new_holds before (lines_of first entries) (opening first entries ++ entry_line k.entry) old k.line
-          ∙ ap (λ (l : List ℕ). Some (before ++ l)) (sym (lines_more first entries k.entry) ∙ ap (λ (es : List Entry). lines_of first es) (sym k.added)
-          ∙ ap (λ (f : List ℕ). lines_of f new_entries) same));
+          grown holds new_holds before (lines_of first pieces) (opening first pieces ++ json_of k.entries) old k.lines
+          ∙ ap (λ (l : List ℕ). Some (before ++ l)) (sym (lines_more first pieces k.entries) ∙ ap (λ (ps : List (List Entry)). lines_of first ps) (sym k.added)
+          ∙ ap (λ (f : List ℕ). lines_of f new_pieces) same));
     }
-shown_on held holds new_holds (Some first) failed new_failed (Err e) entries new_entries piece s a counted = record {
-  each = subst (λ (es : List Entry). ∥ AllByRecursion IsEntry es ∥₁) (sym a) s.each;
+shown_on printed held holds new_holds (Some first) failed new_failed (Err e) pieces new_pieces piece s a counted = record {
+  each = subst (λ (ps : List (List Entry)). ∥ AllByRecursion (IsPiece printed) ps ∥₁) (sym a) s.each;
   lines = λ before line is asked none. absurd (not_none failed (sym none ∙ counted));
 }

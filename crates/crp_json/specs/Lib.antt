@@ -1,5 +1,6 @@
 pub mod Entries
 pub mod Objects
 pub mod Lines
+pub mod Checks
 pub mod Adding
 pub mod Shown

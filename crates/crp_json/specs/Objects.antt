@@ -1,9 +1,11 @@
--- The JSON object of each entry of a report, by its tokens.
+-- The JSON object of each entry of what is printed, by its tokens.
 use Rattle.std.specs.Prelude.{ℕ, Bool, true, false, if◌then◌else◌, List, [], ◌∷◌, ◌++◌, flat_map, Option, Some, None, codes, decimal}
 use Rattle.std.specs.Str.{is_utf8}
 use Rattle.hex.specs.Hex.{encode_lower}
 use Rattle.json.specs.Token.{Token, begin_object, end_object, begin_array, end_array, key, string, number, boolean, null}
 use Rattle.crp_plan.specs.BayNames.{YardBay}
+use Rattle.crp_checker.specs.declared.verdict.Verdict.{Verdict}
+use Rattle.crp_checker.specs.declared.verdict.Verdict.TheVariants as verdict
 use Rattle.crp_said.specs.declared.numbers.Numbers.{Numbers}
 use Rattle.crp_said.specs.declared.said.Said.{Said}
 use Rattle.crp_said.specs.declared.said.Said.TheVariants.{Optimal, First, NoPlan, Between}
@@ -11,6 +13,9 @@ use Rattle.crp_said.specs.declared.moves.Place.{Place}
 use Rattle.crp_said.specs.declared.moves.SaidMove.{SaidMove}
 use Rattle.crp_said.specs.declared.moves.SaidMove.TheVariants.{Shift, Take}
 use Rattle.crp_said.specs.Said.{cause_words, count_said}
+use Rattle.crp_json.specs.declared.entry.BayBounds.{BayBounds}
+use Rattle.crp_json.specs.declared.entry.ChainRank.{ChainRank}
+use Rattle.crp_json.specs.declared.entry.Chains.{Chains}
 use Rattle.crp_json.specs.declared.entry.Entry.{Entry}
 use Rattle.crp_json.specs.declared.entry.Entry.TheVariants as entry
 
@@ -94,6 +99,54 @@ abbrev pub said_members : Said → List Token
 said_members said = member (codes "verdict") (text_token (verdict_words said)) ++ member (codes "lower") (number_or_null (lower_said said))
     ++ member (codes "upper") (number_or_null (count_said said)) ++ member (codes "first") (boolean (is_first said) ∷ []) ++ member (codes "cause") (cause_tokens said)
 
+-- ---- what a certificate shows
+
+abbrev pub known_words : Verdict → List ℕ
+known_words (verdict.Optimal count) = codes "optimal"
+known_words (verdict.First count) = codes "optimal"
+known_words verdict.NoPlan = codes "no plan"
+known_words (verdict.Bounds lower upper) = codes "between"
+
+-- the relocations that each plan has at least
+abbrev pub lower_shown : Verdict → Option ℕ
+lower_shown (verdict.Optimal count) = Some count
+lower_shown (verdict.First count) = Some count
+lower_shown verdict.NoPlan = None
+lower_shown (verdict.Bounds lower upper) = Some lower
+
+-- the relocations of its plan, if it has one
+abbrev pub upper_shown : Verdict → Option ℕ
+upper_shown (verdict.Optimal count) = Some count
+upper_shown (verdict.First count) = Some count
+upper_shown verdict.NoPlan = None
+upper_shown (verdict.Bounds lower upper) = upper
+
+-- its plan is the first of the best
+abbrev pub is_first_shown : Verdict → Bool
+is_first_shown (verdict.Optimal count) = false
+is_first_shown (verdict.First count) = true
+is_first_shown verdict.NoPlan = false
+is_first_shown (verdict.Bounds lower upper) = false
+
+abbrev pub shown_members : Verdict → List Token
+shown_members shown = member (codes "verdict") (text_token (known_words shown)) ++ member (codes "lower") (number_or_null (lower_shown shown))
+    ++ member (codes "upper") (number_or_null (upper_shown shown)) ++ member (codes "first") (boolean (is_first_shown shown) ∷ [])
+
+-- ---- chains
+
+-- a rank behind others: in the same array, or first in the next one
+abbrev pub rank_tokens : ChainRank → List Token
+rank_tokens r = (if r.begins then end_array ∷ begin_array ∷ [] else []) ++ number_token r.rank
+
+-- an array of ranks for each chain
+abbrev pub ranks_tokens : List ChainRank → List Token
+ranks_tokens [] = []
+ranks_tokens (r ∷ ranks) = begin_array ∷ (number_token r.rank ++ (flat_map rank_tokens ranks ++ end_array ∷ []))
+
+abbrev pub chains_tokens : Option Chains → List Token
+chains_tokens None = null ∷ []
+chains_tokens (Some c) = object (member (codes "bound") (number_token c.bound) ++ member (codes "ranks") (array (ranks_tokens c.ranks.items)))
+
 -- ---- the objects
 
 -- the first line: the version of this format, what writes it, and these words, by which it was asked for
@@ -110,7 +163,20 @@ bay_object bay said moves = object (member (codes "bay") (bay_tokens bay) ++ sai
 abbrev pub last_object : ℕ → ℕ → List Token
 last_object bays decided = object (member (codes "bays") (number_token bays) ++ member (codes "decided") (number_token decided))
 
+abbrev pub shown_object : YardBay → Verdict → List Token
+shown_object bay shown = object (member (codes "bay") (bay_tokens bay) ++ shown_members shown)
+
+abbrev pub audited_object : ℕ → List Token
+audited_object bays = object (member (codes "audited") (number_token bays))
+
+abbrev pub bounds_object : BayBounds → List Token
+bounds_object b = object (member (codes "bay") (bay_tokens b.bay) ++ member (codes "blocking") (number_token b.blocking)
+    ++ member (codes "look_ahead") (number_token b.look_ahead) ++ member (codes "chains") (chains_tokens b.chains))
+
 abbrev pub entry_object : Entry → List Token
 entry_object (entry.First numbers) = numbers_object numbers
 entry_object (entry.Bay b) = bay_object b.bay b.said b.moves.items
 entry_object (entry.Last bays decided) = last_object bays decided
+entry_object (entry.Certified b) = shown_object b.bay b.verdict
+entry_object (entry.Audited bays) = audited_object bays
+entry_object (entry.Bounds b) = bounds_object b

@@ -1,14 +1,14 @@
-//! A sink that writes a report as JSON Lines.
-ghost use Rattle.std.specs.Prelude.{◌≡◌, ◌++◌, ◌∷◌, [], length, option_map, IfOk, OnOk, OnErr};
+//! A sink that writes what is printed as JSON Lines.
+ghost use Rattle.std.specs.Prelude.{◌≡◌, ◌++◌, ◌∷◌, [], length, map, option_map, IfOk, OnOk, OnErr};
 ghost use Rattle.std.specs.Io.{WritesAtMost};
 ghost use Rattle.std.specs.Io.KnownBytes.{Appends};
 ghost use Rattle.crp_plan.specs.Devices.{CountsWrite};
-ghost use Rattle.crp_json.specs.Lines.{entry_line};
+ghost use Rattle.crp_json.specs.Lines.{json_of};
 ghost use Rattle.crp_json.specs.Shown.{opening, holds_of, GotLines, IsOneMore, IsAnswer};
 
-use crate::entry::Entry;
-use crate::objects::line_of;
-use crate::reading::read_entry;
+use crate::entry::{Entry, Printed};
+use crate::objects::push_lines;
+use crate::reading::read_entries;
 use crp_plan::{Failure, Sink, WriteFault, write_text};
 use std::alloc::{AllocError, Global};
 use std::marker::{Brand, Model, PhantomData};
@@ -27,87 +27,93 @@ impl Begun for Brand {
 }
 
 /// A sink in front of another one. What it is given goes on as it is; or, where JSON Lines are asked for, what it is given are the pieces of
-/// a report, each with the lines of one entry, and the other sink gets their JSON Lines. A piece that is none is a failure, and each call
-/// behind a failure is one.
+/// what is printed, each with the lines of some entries, and the other sink gets their JSON Lines. A piece that is none is a failure, and each
+/// call behind a failure is one.
 #[derive(Drop)]
 pub struct JsonLines<S: Sink, B: Begun> {
     alloc: Global,
     out: S,
+    printed: Printed,
     first: Option<Vec<u8>>,
-    entries: Vec<Entry>,
+    pieces: Vec<Vec<Entry>>,
     failed: u64,
     begun: PhantomData<B>,
 }
 
 impl<S: Sink, B: Begun> Model for JsonLines<S, B> {
-    ghost use Rattle.std.specs.Prelude.{option_map};
+    ghost use Rattle.std.specs.Prelude.{map, option_map};
     ghost use Rattle.crp_json.specs.Shown.{Shown, IsShown};
 
     ghost Value = { Shown };
 
-    ghost view = { λ d. record { first = option_map (λ line. line.items) d.first; entries = d.entries.items; holds = S.contents d.out; failures = d.failed } };
+    ghost view = { λ d. record { printed = d.printed; first = option_map (λ line. line.items) d.first; pieces = map (λ p. p.items) d.pieces.items; holds = S.contents d.out; failures = d.failed } };
 
-    ghost invariant = { λ d. IsShown B.held
-        (record { first = option_map (λ line. line.items) d.first; entries = d.entries.items; holds = S.contents d.out; failures = d.failed }) };
+    ghost invariant = { λ d. IsShown B.held (record {
+      printed = d.printed;
+      first = option_map (λ line. line.items) d.first;
+      pieces = map (λ p. p.items) d.pieces.items;
+      holds = S.contents d.out;
+      failures = d.failed;
+    }) };
 }
 
-// The JSON Line of an entry behind these, with the first line where it is the first one.
-fn next_line(
+// The JSON Lines of a piece behind these, with the first line where it is the first one.
+fn next_lines(
     alloc: Global,
     first: &[u8],
+    pieces: &[Vec<Entry>],
     entries: &[Entry],
-    entry: &Entry,
 ) -> Result<Vec<u8>, AllocError>
-    ensures { IfOk result (λ line. line.items ≡ opening first.now entries.now ++ entry_line entry.now) }
+    ensures { IfOk result (λ lines. lines.items ≡ opening first.now (map (λ p. p.items) pieces.now) ++ json_of entries.now) }
 {
-    let line = line_of(alloc, entry)?;
-    if !entries.is_empty() {
-        return Ok(line);
+    let mut lines = Vec::new(alloc);
+    if pieces.is_empty() {
+        lines.extend_from_slice(first)?;
     }
-    let mut lines = Vec::from_slice(alloc, first)?;
-    lines.extend_from_slice(&line)?;
+    push_lines(alloc, &mut lines, entries)?;
     Ok(lines)
 }
 
-// Adds an entry, and writes its JSON Line; or adds none.
+// Adds a piece, and writes its JSON Lines; or adds none.
 fn add<S: Sink>(
     alloc: Global,
     out: &mut S,
     first: &[u8],
-    entries: &mut Vec<Entry>,
-    entry: Entry,
+    pieces: &mut Vec<Vec<Entry>>,
+    entries: Vec<Entry>,
 ) -> Result<(), WriteFault>
-    ensures added { OnOk result ((entries.new.items ≡ entries.old.items ++ entry ∷ [])
-        × Appends (S.contents out.old) (S.contents out.new) (opening first.now entries.old.items ++ entry_line entry)) }
-    ensures kept { OnErr result (entries.new.items ≡ entries.old.items) }
+    ensures added { OnOk result ((map (λ p. p.items) pieces.new.items ≡ map (λ p. p.items) pieces.old.items ++ entries.items ∷ [])
+        × Appends (S.contents out.old) (S.contents out.new) (opening first.now (map (λ p. p.items) pieces.old.items) ++ json_of entries.items)) }
+    ensures kept { OnErr result (pieces.new.items ≡ pieces.old.items) }
 {
-    let line = next_line(alloc, first, entries, &entry)?;
-    entries.push(entry).map_err(AllocError::from)?;
-    match write_text(out, &line) {
+    let lines = next_lines(alloc, first, pieces, &entries)?;
+    pieces.push(entries).map_err(AllocError::from)?;
+    match write_text(out, &lines) {
         Ok(()) => Ok(()),
         Err(fault) => {
-            entries.pop();
+            pieces.pop();
             Err(WriteFault::from(fault))
         }
     }
 }
 
-// Adds the entry whose lines a piece has, and writes its JSON Line; or adds none.
+// Adds the entries whose lines a piece has, and writes their JSON Lines; or adds none.
 fn show<S: Sink>(
     alloc: Global,
     out: &mut S,
+    printed: Printed,
     first: &[u8],
-    entries: &mut Vec<Entry>,
+    pieces: &mut Vec<Vec<Entry>>,
     piece: &[u8],
 ) -> Result<usize, Failure>
     ensures all { IfOk result (λ n. n ≡ length piece.now) }
-    ensures shown { OnOk result (IsOneMore first.now entries.old.items entries.new.items (S.contents out.old) (S.contents out.new) piece.now) }
-    ensures kept { OnErr result (entries.new.items ≡ entries.old.items) }
+    ensures shown { OnOk result (IsOneMore printed first.now (map (λ p. p.items) pieces.old.items) (map (λ p. p.items) pieces.new.items) (S.contents out.old) (S.contents out.new) piece.now) }
+    ensures kept { OnErr result (pieces.new.items ≡ pieces.old.items) }
 {
-    let Ok(Some(entry)) = read_entry(alloc, piece) else {
+    let Ok(Some(entries)) = read_entries(alloc, printed, piece) else {
         return Err(Failure::Failed);
     };
-    match add(alloc, out, first, entries, entry) {
+    match add(alloc, out, first, pieces, entries) {
         Ok(()) => Ok(piece.len()),
         Err(_) => Err(Failure::Failed),
     }
@@ -117,13 +123,15 @@ fn show<S: Sink>(
 fn answer_to<S: Sink>(
     alloc: Global,
     out: &mut S,
+    printed: Printed,
     first: &Option<Vec<u8>>,
-    entries: &mut Vec<Entry>,
+    pieces: &mut Vec<Vec<Entry>>,
     failed: u64,
     piece: &[u8],
 ) -> Result<usize, Failure>
     ensures bound { WritesAtMost result piece.now }
-    ensures answer { IsAnswer (option_map (λ line. line.items) first.now) failed result entries.old.items entries.new.items (S.contents out.old) (S.contents out.new) piece.now }
+    ensures answer { IsAnswer printed (option_map (λ line. line.items) first.now) failed result (map (λ p. p.items) pieces.old.items) (map (λ p. p.items) pieces.new.items)
+        (S.contents out.old) (S.contents out.new) piece.now }
 {
     let Some(first) = first else {
         return out.write(piece);
@@ -131,7 +139,7 @@ fn answer_to<S: Sink>(
     if failed != 0 {
         return Err(Failure::Failed);
     }
-    show(alloc, out, first, entries, piece)
+    show(alloc, out, printed, first, pieces, piece)
 }
 
 // The count of failures with that of an answer to a piece, if it is one.
@@ -145,16 +153,18 @@ fn count(failed: u64, answer: Result<usize, Failure>, piece: &[u8]) -> u64
 }
 
 impl<S: Sink, B: Begun> JsonLines<S, B> {
-    /// In front of a sink. Where a first line is given, JSON Lines are asked for, behind that line; else what it is given goes on as it is.
-    pub fn new(alloc: Global, out: S, first: Option<Vec<u8>>) -> JsonLines<S, B>
+    /// In front of a sink. Where a first line is given, JSON Lines are asked for, behind that line, of what is printed; else what it is given
+    /// goes on as it is.
+    pub fn new(alloc: Global, out: S, printed: Printed, first: Option<Vec<u8>>) -> JsonLines<S, B>
         requires { B.held ≡ S.contents out }
-        ensures { result ≡ record { first = option_map (λ line. line.items) first; entries = []; holds = S.contents out; failures = 0 } }
+        ensures { result ≡ record { printed = printed; first = option_map (λ line. line.items) first; pieces = []; holds = S.contents out; failures = 0 } }
     {
         JsonLines {
             alloc,
             out,
+            printed,
             first,
-            entries: Vec::new(alloc),
+            pieces: Vec::new(alloc),
             failed: 0,
             begun: PhantomData,
         }
@@ -178,8 +188,9 @@ impl<S: Sink, B: Begun> Sink for JsonLines<S, B> {
         let answer = answer_to(
             self.alloc,
             &mut self.out,
+            self.printed,
             &self.first,
-            &mut self.entries,
+            &mut self.pieces,
             self.failed,
             piece,
         );

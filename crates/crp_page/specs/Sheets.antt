@@ -1,5 +1,5 @@
 -- What stands in the head of each sheet where the page is printed, as a rule behind its style sheet (CSS Paged Media, page-margin boxes).
-use Rattle.std.specs.Prelude.{ℕ, ◌==◌, nat_le, Bool, not, ◌&&◌, ◌||◌, List, [], ◌∷◌, ◌++◌, length, flat_map, Option, Some, None, codes, if◌then◌else◌}
+use Rattle.std.specs.Prelude.{ℕ, ◌==◌, nat_le, Bool, not, ◌&&◌, ◌||◌, List, [], ◌∷◌, ◌++◌, length, flat_map, Option, Some, None, unwrap_or, codes, if◌then◌else◌}
 use Rattle.crp_movins.specs.Headings.{Heading}
 use Rattle.crp_loading.specs.Turns.{ShipOrder}
 use Rattle.crp_picture.specs.Names.{hex_byte}
@@ -8,9 +8,13 @@ use Rattle.crp_picture.specs.Names.{hex_byte}
 abbrev pub is_plain : ℕ → Bool
 is_plain byte = (nat_le 32 byte && nat_le byte 126) && not ((byte == 34 || byte == 38) || (byte == 60 || byte == 92))
 
--- a byte in such a text: as it is, or as a backslash that shows, x and its number
+-- what stands there for one of " & <: its number, as a style sheet escapes a character
+abbrev pub styled_mark : ℕ → Option (List ℕ)
+styled_mark byte = if byte == 34 then Some (codes "\\000022") else (if byte == 38 then Some (codes "\\000026") else (if byte == 60 then Some (codes "\\00003C") else None))
+
+-- a byte in such a text: as it is, or so, or as a backslash that shows, x and its number
 abbrev pub styled_byte : ℕ → List ℕ
-styled_byte byte = if is_plain byte then byte ∷ [] else 92 ∷ hex_byte byte
+styled_byte byte = if is_plain byte then byte ∷ [] else unwrap_or (styled_mark byte) (92 ∷ hex_byte byte)
 
 -- what is said behind its word, if it is said
 abbrev pub said : List ℕ → List ℕ → List ℕ

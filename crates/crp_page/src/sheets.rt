@@ -1,6 +1,6 @@
 //! What stands in the head of each sheet where the page is printed.
-ghost use Rattle.std.specs.Prelude.{◌≡◌, ◌++◌, flat_map, OnOk};
-ghost use Rattle.crp_page.specs.Sheets.{is_plain, styled_byte, said, heading_text, is_silent, heading_rule, ship_rule};
+ghost use Rattle.std.specs.Prelude.{◌≡◌, ◌++◌, flat_map, option_map, OnOk};
+ghost use Rattle.crp_page.specs.Sheets.{is_plain, styled_mark, styled_byte, said, heading_text, is_silent, heading_rule, ship_rule};
 
 use crp_loading::Ship;
 use crp_movins::Heading;
@@ -15,6 +15,18 @@ fn is_plain(byte: u8) -> bool
     is_printed && !((byte == b'"' || byte == b'&') || (byte == b'<' || byte == b'\\'))
 }
 
+/// What stands there for a mark that has a meaning of its own.
+fn styled_mark(byte: u8) -> Option<&'static [u8]>
+    ensures { option_map (λ text. text.now) result ≡ styled_mark byte }
+{
+    match byte {
+        b'"' => Some(b"\\000022"),
+        b'&' => Some(b"\\000026"),
+        b'<' => Some(b"\\00003C"),
+        _ => None,
+    }
+}
+
 /// Adds a byte of such a text.
 fn push_styled_byte(text: &mut Vec<u8>, byte: u8) -> Result<(), AllocError>
     ensures { OnOk result (text.new.items ≡ text.old.items ++ styled_byte byte) }
@@ -22,6 +34,9 @@ fn push_styled_byte(text: &mut Vec<u8>, byte: u8) -> Result<(), AllocError>
     if is_plain(byte) {
         text.push(byte)?;
         return Ok(());
+    }
+    if let Some(mark) = styled_mark(byte) {
+        return text.extend_from_slice(mark);
     }
     text.push(b'\\')?;
     push_hex_byte(text, byte)

@@ -69,6 +69,7 @@ impl Row {
     }
 
     /// Adds a cut by reasons with a copy of their text; they show that so many relocations are still to come.
+    #[inline(never)]
     pub fn push_reasons(&mut self, bound: u8, text: &[u8]) -> Result<(), AllocError>
         ensures symbols { OnOk result (self.new.symbols ≡ self.old.symbols ++ CutR bound text.now ∷ []) }
         ensures same { OnErr result (self.new.symbols ≡ self.old.symbols) }
@@ -80,7 +81,7 @@ impl Row {
     }
 
     /// Adds a symbol, with a copy of this text if it has one.
-    #[inline]
+    #[inline(always)]
     pub fn push(&mut self, kind: Kind, text: &[u8]) -> Result<(), AllocError>
         ensures symbols { OnOk result (self.new.symbols ≡ self.old.symbols ++ symbol_of kind text.now ∷ []) }
         ensures same { OnErr result (self.new.symbols ≡ self.old.symbols) }

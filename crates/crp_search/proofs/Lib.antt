@@ -8,5 +8,6 @@ pub mod SoFar
 pub mod Closing
 pub mod UnderWay
 pub mod Owing
+mod Digits
 pub mod FirstHeld
 pub mod FirstMet

@@ -1,11 +1,11 @@
 -- How much of a search is left: it ends.
 use Rattle.std.proofs.Common.{◌≡◌, ℕ, zero, suc, ◌+◌, ◌-◌, ◌*◌, ◌^◌, ◌<◌, ◌≤◌, List, [], ◌∷◌, length, mul-le-mul_right, sym, subst, arith}
 use Rattle.std.proofs.Math.Nat.{pow-succ', pow-zero}
-use Rattle.crp_search.specs.declared.frames.Frame.{Frame}
+use Rattle.crp_search.specs.Frames.{Branching as Frame}
 
 -- the rows of a frame that had no turn yet
 abbrev pub left : Frame → ℕ
-left f = length f.rows.items - f.done
+left f = length f.left
 
 -- what frames above a node still owe: each row as many steps as a node of that depth can take
 abbrev pub owed_above : ℕ → List Frame → ℕ

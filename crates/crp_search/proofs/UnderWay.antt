@@ -1,7 +1,7 @@
 -- A search on its way over the tree: the symbols of the nodes that it has met, and a frame for each branch between its first node and the one that it has come to.
-use Rattle.std.proofs.Common.{◌≡◌, ℕ, suc, ◌<◌, ◌≤◌, List, [], ◌∷◌, ◌++◌, length, drop, Contains, None, refl, sym, ap, ◌∙◌, subst, arith, append_assoc, append-nil, length-append, drop-cons}
+use Rattle.std.proofs.Common.{◌≡◌, ℕ, suc, ◌<◌, ◌≤◌, List, [], ◌∷◌, ◌++◌, length, get_or, Contains, None, refl, sym, ap, ◌∙◌, subst, arith, append_assoc, append-nil, length-append}
 use Rattle.std.specs.Prelude.{reverse}
-use Rattle.std.proofs.lemmas.List.{reverse-append, drop_all}
+use Rattle.std.proofs.lemmas.List.{reverse-append, get_or_at}
 use Rattle.crp_plan.specs.Bay.{Problem, IsProblem, Position, IsAt}
 use Rattle.crp_plan.proofs.Steps.{short_path}
 use Rattle.crp_bay.specs.Positions.{targets, child}
@@ -18,9 +18,9 @@ use Rattle.crp_tree.specs.Trees.{Node, nodes, branches, Fits, IsGivenAway}
 use Rattle.crp_tree.specs.Spots.{Spot, spot_below, spots_below}
 use Rattle.crp_tree.proofs.Joined.{branches-append}
 use Rattle.crp_tree.proofs.Paying.{IsWalked, walk_begins, walk_more, walk_leaf, IsTreeAt, walk_ends}
-use Rattle.crp_search.specs.declared.frames.Frame.{Frame}
+use Rattle.crp_search.specs.Frames.{Branching as Frame, TakesTurn}
 use Rattle.crp_search.specs.Searched.{AreFirstNodes}
-use Rattle.crp_search.specs.Walked.{TakesTurn, met_at}
+use Rattle.crp_search.specs.Walked.{met_at}
 use Rattle.crp_search.proofs.Choice.{looked_at}
 use Rattle.crp_search.proofs.Owing.{left as rows_left}
 
@@ -38,7 +38,7 @@ spot_at x = record { path = x.path; place = x.stand.place }
 
 -- the trees that a frame there still owes
 abbrev pub owed_in : Stand → Frame → List Spot
-owed_in x f = spots_below x.path x.stand.place (drop f.done f.rows.items)
+owed_in x f = spots_below x.path x.stand.place f.left
 
 -- where one is left to leave, this is the container that relocations move
 abbrev pub Moves : Mover → Position → Type 0
@@ -47,7 +47,8 @@ Moves m s = s.next ≤ s.ordered → IsMover m s
 -- it is the frame of a branch there
 pub record IsFrameAt (p : Problem) (x : Stand) (f : Frame) : Type 0 where
   pub at : IsAt p x.path x.stand.place
-  pub rows : f.rows.items ≡ targets x.stand.place
+  pub had : List ℕ
+  pub rows : had ++ f.left ≡ targets x.stand.place
   pub mover : Moves f.mover x.stand.place
 
 -- one row further
@@ -76,13 +77,7 @@ frame_at p first now f (g ∷ above) owed h = h.2
 
 -- what it owes at a turn
 owed_turn : (x : Stand) (f g : Frame) (row : ℕ) → TakesTurn f g row → owed_in x f ≡ spot_below x.path x.stand.place row ∷ owed_in x g
-owed_turn x f g row t =
-    let lt : f.done < length f.rows.items = t.left in
-    let next : suc f.done ≡ g.done = omega (arith, t.done) in
-    ap (spots_below x.path x.stand.place) (drop-cons f.rows.items f.done 0 lt)
-    ∙ ap (λ r. spot_below x.path x.stand.place r ∷ spots_below x.path x.stand.place (drop (suc f.done) f.rows.items)) (sym t.row_is)
-    ∙ ap (λ n. spot_below x.path x.stand.place row ∷ spots_below x.path x.stand.place (drop n f.rows.items)) next
-    ∙ ap (λ l. spot_below x.path x.stand.place row ∷ spots_below x.path x.stand.place (drop g.done l)) (sym t.rows)
+owed_turn x f g row t = ap (spots_below x.path x.stand.place) t.left
 
 -- the next spot, and what is owed behind it
 pub record Turned (p : Problem) (first now : Stand) (g : Frame) (above : List Frame) (owed : List Spot) (row : ℕ) : Type 0 where
@@ -93,28 +88,27 @@ pub record Turned (p : Problem) (first now : Stand) (g : Frame) (above : List Fr
 turned : (p : Problem) (first now : Stand) (f g : Frame) (above : List Frame) (owed : List Spot) (row : ℕ) → AreFrames p first now f above owed → TakesTurn f g row → Turned p first now g above owed row
 turned p first now f g [] owed row h t =
     let at = h.1 in
-    record { others = owed_in now g; is = h.2 ∙ owed_turn now f g row t; frames = (h.0, record { at = at.at; rows = t.rows ∙ at.rows; mover = subst (λ m. Moves m now.stand.place) (sym t.mover) at.mover }, refl) }
+    record { others = owed_in now g; is = h.2 ∙ owed_turn now f g row t; frames = (h.0, record { at = at.at; had = at.had ++ row ∷ []; rows = append_assoc at.had (row ∷ []) g.left ∙ ap (λ l. at.had ++ l) (sym t.left) ∙ at.rows; mover = subst (λ m. Moves m now.stand.place) (sym t.mover) at.mover }, refl) }
 turned p first now f g (upper ∷ above) owed row h t =
     let at = h.2 in
     record {
       others = owed_in now g ++ h.3.0;
       is = h.3.1 ∙ ap (λ l. l ++ h.3.0) (owed_turn now f g row t);
-      frames = (h.0, h.1, record { at = at.at; rows = t.rows ∙ at.rows; mover = subst (λ m. Moves m now.stand.place) (sym t.mover) at.mover }, (h.3.0, refl, h.3.2));
+      frames = (h.0, h.1, record { at = at.at; had = at.had ++ row ∷ []; rows = append_assoc at.had (row ∷ []) g.left ∙ ap (λ l. at.had ++ l) (sym t.left) ∙ at.rows; mover = subst (λ m. Moves m now.stand.place) (sym t.mover) at.mover }, (h.3.0, refl, h.3.2));
     }
 
 -- ---- the walk
 
 -- the first node has a frame
-pub sets_out : (p : Problem) (first : Stand) (f : Frame) (path text : List ℕ) (n : ℕ) → IsAt p first.path first.stand.place → path ≡ first.path → f.rows.items ≡ targets first.stand.place → f.done ≡ 0 → Moves f.mover first.stand.place →
-    n ≡ length f.rows.items → IsUnderWay p first first f [] (symbol.Branch n ∷ []) (met_at path first.stand.place text None)
-sets_out p first f path text n at here rows done moves many = subst (λ l. IsUnderWay p first first f [] (symbol.Branch n ∷ []) (met_at l first.stand.place text None)) (sym here) (record {
+pub sets_out : (p : Problem) (first : Stand) (f : Frame) (path text : List ℕ) (n : ℕ) → IsAt p first.path first.stand.place → path ≡ first.path → f.left ≡ targets first.stand.place → Moves f.mover first.stand.place →
+    n ≡ length (targets first.stand.place) → IsUnderWay p first first f [] (symbol.Branch n ∷ []) (met_at path first.stand.place text None)
+sets_out p first f path text n at here rows moves many = subst (λ l. IsUnderWay p first first f [] (symbol.Branch n ∷ []) (met_at l first.stand.place text None)) (sym here) (record {
   owed = spots_below first.path first.stand.place (targets first.stand.place) ++ [];
-  walked = walk_more (spot_at first) [] [] (spot_at first) [] (symbol.Branch n) (walk_begins (spot_at first)) (many ∙ ap length rows);
+  walked = walk_more (spot_at first) [] [] (spot_at first) [] (symbol.Branch n) (walk_begins (spot_at first)) many;
   frames = (
     refl,
-    record { at = at; rows = rows; mover = moves },
-    append-nil (spots_below first.path first.stand.place (targets first.stand.place)) ∙ ap (spots_below first.path first.stand.place) (sym rows)
-        ∙ ap (λ n. spots_below first.path first.stand.place (drop n f.rows.items)) (sym done),
+    record { at = at; had = []; rows = rows; mover = moves },
+    append-nil (spots_below first.path first.stand.place (targets first.stand.place)) ∙ ap (spots_below first.path first.stand.place) (sym rows),
   );
   some = omega arith;
 })
@@ -123,8 +117,8 @@ still_some : (met own : List Node) → 1 ≤ length (branches met) → 1 ≤ len
 still_some met own some = omega (arith, ap length (branches-append met own), length-append (branches met) (branches own))
 
 -- nothing is owed where each row had its turn
-owed_none : (x : Stand) (f : Frame) → length f.rows.items ≤ f.done → owed_in x f ≡ []
-owed_none x f full = ap (spots_below x.path x.stand.place) (drop_all f.done f.rows.items full)
+owed_none : (x : Stand) (f : Frame) → f.left ≡ [] → owed_in x f ≡ []
+owed_none x f full = ap (spots_below x.path x.stand.place) full
 
 -- the node that the search goes back to
 pub record GoesBack (p : Problem) (first now : Stand) (g : Frame) (above : List Frame) (list : List Symbol) (met : List Node) : Type 0 where
@@ -168,7 +162,7 @@ module _ {p : Problem} {first now : Stand} {f : Frame} {above : List Frame} {lis
   pub first_nodes : AreFirstNodes first.path first.stand.place met
   first_nodes = first_walked first list met h.owed h.walked
 
-  pub goes_up : {g : Frame} {others : List Frame} → above ≡ g ∷ others → length f.rows.items ≤ f.done → GoesBack p first now g others list met
+  pub goes_up : {g : Frame} {others : List Frame} → above ≡ g ∷ others → f.left ≡ [] → GoesBack p first now g others list met
   goes_up is full =
       let k = subst (λ l. IsUnderWay p first now f l list met) is h in
       let frames = k.frames in
@@ -183,7 +177,7 @@ module _ {p : Problem} {first now : Stand} {f : Frame} {above : List Frame} {lis
         };
       }
 
-  pub ends : above ≡ [] → length f.rows.items ≤ f.done → Ended first list met
+  pub ends : above ≡ [] → f.left ≡ [] → Ended first list met
   ends none full =
       let k = subst (λ l. IsUnderWay p first now f l list met) none h in
       let frames = k.frames in
@@ -193,7 +187,10 @@ module _ {p : Problem} {first now : Stand} {f : Frame} {above : List Frame} {lis
   module _ {g : Frame} {row : ℕ} (t : TakesTurn f g row) where
     -- a row's turn: it is a legal one
     pub legal_turn : Contains (targets now.stand.place) row
-    legal_turn = let k = here in subst (Contains (targets now.stand.place)) (sym t.row_is) (looked_at now.stand.place f.rows.items f.done k.rows t.left)
+    legal_turn =
+        let k = here in
+        let row_is : get_or (k.had ++ f.left) (length k.had) 0 ≡ row = ap (λ l. get_or (k.had ++ l) (length k.had) 0) t.left ∙ get_or_at k.had row g.left 0 (length k.had) refl in
+        subst (Contains (targets now.stand.place)) row_is (looked_at now.stand.place (k.had ++ f.left) (length k.had) k.rows (omega (arith, length-append k.had f.left, ap length t.left)))
 
     -- and leads on
     pub turn_leads : IsProblem p → IsAt p (now.path ++ row ∷ []) (child now.stand.place row)
@@ -223,9 +220,9 @@ module _ {p : Problem} {first now : Stand} {f : Frame} {above : List Frame} {lis
 
     -- or it has a frame
     pub goes_down : (deep : Stand) (fresh : Frame) (path text : List ℕ) (n : ℕ) → IsProblem p → path ≡ deep.path → deep.path ≡ now.path ++ row ∷ [] →
-        deep.stand ≡ record { place = child now.stand.place row; trail = now.stand.place ∷ now.stand.trail } → fresh.rows.items ≡ targets deep.stand.place → fresh.done ≡ 0 → Moves fresh.mover deep.stand.place → n ≡ length fresh.rows.items →
+        deep.stand ≡ record { place = child now.stand.place row; trail = now.stand.place ∷ now.stand.trail } → fresh.left ≡ targets deep.stand.place → Moves fresh.mover deep.stand.place → n ≡ length (targets deep.stand.place) →
         IsUnderWay p first deep fresh (g ∷ above) (list ++ symbol.Branch n ∷ []) (met ++ met_at path (child now.stand.place row) text None)
-    goes_down deep fresh path text n is same deeper stand rows done moves many =
+    goes_down deep fresh path text n is same deeper stand rows moves many =
         let k = turned p first now f g above h.owed row h.frames t in
         let place : deep.stand.place ≡ child now.stand.place row = ap (λ (v : PlaceAndTrail). v.place) stand in
         let spot : spot_below now.path now.stand.place row ≡ spot_at deep =
@@ -236,14 +233,14 @@ module _ {p : Problem} {first now : Stand} {f : Frame} {above : List Frame} {lis
         ap (λ s. met_at deep.path s text None) place ∙ ap (λ l. met_at l (child now.stand.place row) text None) (sym same) in
         subst (λ l. IsUnderWay p first deep fresh (g ∷ above) (list ++ symbol.Branch n ∷ []) (met ++ l)) own (record {
           owed = spots_below deep.path deep.stand.place (targets deep.stand.place) ++ k.others;
-          walked = walk_more (spot_at first) list met (spot_at deep) k.others (symbol.Branch n) (subst (IsWalked (spot_at first) list met) owed_is h.walked) (many ∙ ap length rows);
+          walked = walk_more (spot_at first) list met (spot_at deep) k.others (symbol.Branch n) (subst (IsWalked (spot_at first) list met) owed_is h.walked) many;
           frames = (
             now,
             record { row = row; path = deeper; stand = stand },
-            record { at = at; rows = rows; mover = moves },
+            record { at = at; had = []; rows = rows; mover = moves },
             (
               k.others,
-              ap (λ l. spots_below deep.path deep.stand.place l ++ k.others) (sym rows) ∙ ap (λ m. spots_below deep.path deep.stand.place (drop m fresh.rows.items) ++ k.others) (sym done),
+              ap (λ l. spots_below deep.path deep.stand.place l ++ k.others) (sym rows),
               k.frames,
             ),
           );
@@ -281,4 +278,4 @@ reverse_push xs x = reverse-append xs (x ∷ [])
 
 -- a frame has one row less left
 pub one_less_left : {f g : Frame} {row : ℕ} → TakesTurn f g row → rows_left f ≡ suc (rows_left g)
-one_less_left t = omega (arith, t.left, t.done, ap length t.rows)
+one_less_left t = ap length t.left

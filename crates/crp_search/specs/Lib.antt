@@ -17,6 +17,7 @@ pub mod Tries
 pub mod Searched
 pub mod Firsts
 pub mod FirstsFound
+pub mod Frames
 pub mod Walked
 pub mod Meeting
 pub mod FirstMeeting

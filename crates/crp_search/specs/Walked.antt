@@ -1,5 +1,5 @@
--- What a walk over a part meets at a node, and the turns of a branch's rows.
-use Rattle.std.specs.Prelude.{◌≡◌, ℕ, ◌+◌, ◌<◌, ◌≤◌, List, [], ◌∷◌, length, slice_index, Option, Some, None, Result, IfOk, IfErr, IfSome}
+-- What a walk over a part meets at a node.
+use Rattle.std.specs.Prelude.{◌≡◌, ℕ, ◌+◌, ◌<◌, ◌≤◌, List, [], ◌∷◌, length, Option, Some, None, Result, IfOk, IfErr, IfSome}
 use Rattle.crp_plan.specs.Bay.{Position}
 use Rattle.crp_row.specs.Symbol.{Symbol}
 use Rattle.crp_row.specs.Rows.{symbol_of}
@@ -7,7 +7,6 @@ use Rattle.crp_tree.specs.Symbols.{IsLeaf, leaf}
 use Rattle.crp_tree.specs.Mark.{X}
 use Rattle.crp_tree.specs.Trees.{Node, nodes, least_value, Fits, IsGivenAway}
 use Rattle.crp_search.specs.declared.frames.Closed.{Closed}
-use Rattle.crp_search.specs.declared.frames.Frame.{Frame}
 use Rattle.crp_search.specs.declared.walk_end.WalkEnd.{WalkEnd}
 use Rattle.crp_search.specs.Limits.{Dealings}
 
@@ -35,11 +34,3 @@ pub record Closes {A : Type 0} (Meets : ℕ → A → Dealings → A → Dealing
   pub met : IfOk result (λ found. (rows : ℕ) → under ≤ rows + 1 → Meets rows a d b e (met_at path s text found))
   pub closed : IfOk result (λ found. IfSome found (IsLeafAt under floor path s text))
   pub ended : IfErr result (λ end. (rows : ℕ) → under ≤ rows + 1 → Ends rows a d b e [] end)
-
--- a frame's row has its turn
-pub record TakesTurn (f g : Frame) (row : ℕ) : Type 0 where
-  pub left : f.done < length f.rows.items
-  pub row_is : row ≡ slice_index f.rows.items f.done
-  pub done : g.done ≡ f.done + 1
-  pub rows : g.rows.items ≡ f.rows.items
-  pub mover : g.mover ≡ f.mover

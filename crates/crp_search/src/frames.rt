@@ -1,14 +1,14 @@
 //! The branches that a search is in.
-ghost use Rattle.std.specs.Prelude.{◌≡◌, ◌≤◌, length, IfSome, IfNone};
+ghost use Rattle.std.specs.Prelude.{◌≡◌, ◌≤◌, [], length, IfSome, IfNone};
 ghost use Rattle.crp_bay.specs.Positions.{targets};
 ghost use Rattle.crp_bounds.specs.Moving.{IsMover};
-ghost use Rattle.crp_search.specs.Walked.{TakesTurn};
+ghost use Rattle.crp_search.specs.Frames.{TakesTurn, digits};
 
-use arrayvec::ArrayVec;
+use crp_bay::Position;
 use crp_bounds::{Bounded, Mover};
-use crp_plan::MAX_ROWS;
 use crp_row::Kind;
 use crp_tree::Tree;
+use std::marker::Model;
 
 /// A tree, and the least value of its cuts, or the problem's cap where none is below that.
 #[derive(Drop)]
@@ -24,48 +24,90 @@ pub struct Closed {
     pub floor: u32,
 }
 
-/// A branch whose legal rows are searched in turn: the container that moves there, the rows, rising, and how many of them had their
-/// turn.
+/// A branch whose legal rows are searched in turn. A contract sees the container that moves there, the rows that had no turn yet, rising,
+/// and how many rows are legal in all.
+///
+/// The rows are the digits of one number to the base 16, since a frame is moved at each node.
 #[derive(Drop)]
 pub struct Frame {
-    pub mover: Mover,
-    rows: ArrayVec<u8, MAX_ROWS>,
-    done: usize,
+    mover: Mover,
+    count: u8,
+    rows: u64,
+}
+
+impl Model for Frame {
+    ghost use Rattle.crp_search.specs.Frames.{Branching, digits};
+
+    ghost Value = { Branching };
+
+    ghost view = { λ f. record { mover = f.mover; left = digits 16 f.rows; count = f.count } };
+}
+
+/// The legal rows of a position as the digits of a number, and how many they are.
+#[inline(always)]
+fn legal_rows(position: &Position) -> (u64, u8)
+    ensures rows { digits 16 result.0 ≡ targets position.now.place }
+    ensures count { result.1 ≡ length (targets position.now.place) }
+    ensures few { result.1 ≤ 12 }
+{
+    let mut rows: u64 = 0;
+    let mut count: u8 = 0;
+    let mut row = position.rows();
+    while row > 0 {
+        if position.is_target(row) {
+            rows = rows * 16 + row as u64;
+            count += 1;
+        }
+        row -= 1;
+    }
+    (rows, count)
 }
 
 impl Frame {
     /// The branch at a position before its first row.
-    #[inline]
+    #[inline(always)]
     pub fn at(place: &Bounded) -> Frame
         ensures mover { place.now.place.next ≤ place.now.place.ordered → IsMover result.mover place.now.place }
-        ensures rows { result.rows.items ≡ targets place.now.place }
-        ensures few { length result.rows.items ≤ 12 }
-        ensures done { result.done ≡ 0 }
+        ensures rows { result.left ≡ targets place.now.place }
+        ensures count { result.count ≡ length (targets place.now.place) }
+        ensures few { length result.left ≤ 12 }
     {
+        let (rows, count) = legal_rows(place.position());
         Frame {
             mover: place.mover(),
-            rows: place.position().targets(),
-            done: 0,
+            count,
+            rows,
         }
+    }
+
+    /// The container that moves there.
+    #[inline]
+    pub fn mover(&self) -> Mover
+        ensures { result ≡ self.now.mover }
+    {
+        self.mover
     }
 
     /// What the symbol of the branch is.
     #[inline]
     pub fn kind(&self) -> Kind
-        ensures { result ≡ Kind.Branch (length self.now.rows.items) }
+        ensures { result ≡ Kind.Branch self.now.count }
     {
-        Kind::Branch(self.rows.len() as u8)
+        Kind::Branch(self.count)
     }
 
     /// The row whose turn it is. `None` where each row had its turn.
     #[inline]
     pub fn turn(&mut self) -> Option<u8>
         ensures turn { IfSome result (TakesTurn self.old self.new) }
-        ensures none { IfNone result (length self.old.rows.items ≤ self.old.done) }
+        ensures none { IfNone result (self.old.left ≡ []) }
         ensures same { IfNone result (self.new ≡ self.old) }
     {
-        let row = self.rows.get(self.done).copied()?;
-        self.done += 1;
+        if self.rows == 0 {
+            return None;
+        }
+        let row = (self.rows % 16) as u8;
+        self.rows /= 16;
         Some(row)
     }
 }

@@ -94,6 +94,7 @@ impl Reasons {
     }
 
     /// Tries to close a node by reasons that show so many relocations. More than a byte says are not shown.
+    #[inline(always)]
     fn close<L: Limit>(
         &mut self,
         position: &Position,
@@ -116,6 +117,7 @@ impl Reasons {
     }
 
     /// Goes on at a node where so many relocations more suffice: closes it by reasons, or claims an expansion.
+    #[inline(always)]
     pub fn go_on<L: Limit>(
         &mut self,
         position: &Position,

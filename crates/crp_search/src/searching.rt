@@ -58,6 +58,7 @@ impl Seek for SeekFewest {
         offer_plan(&plan, limit);
     }
 
+    #[inline(always)]
     fn go_on<L: Limit>(
         &mut self,
         position: &Position,

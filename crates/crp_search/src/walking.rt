@@ -316,7 +316,7 @@ fn walk_from<S: Seek, L: Limit>(
             problem,
             place,
             path.as_slice(),
-            frame.mover,
+            frame.mover(),
             row,
             floor,
             seek,

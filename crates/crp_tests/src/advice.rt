@@ -241,6 +241,7 @@ fn add_followed(faults: &mut Vec<ToolFault>) -> Result<(), AllocError> {
     }
     faults.push(ToolFault::Loaded(LoadingFault::OutOfOrder { line: 4 }))?;
     faults.push(ToolFault::Loaded(LoadingFault::NotOrdered { line: 4 }))?;
+    faults.push(ToolFault::ReadSecond)?;
     faults.push(ToolFault::WriteTable)?;
     faults.push(ToolFault::WritePage).map_err(AllocError::from)
 }
@@ -283,7 +284,7 @@ fn is_short(advice: &str) -> bool {
 #[test]
 fn each_line_is_short_and_of_one_code(rt: HostRuntime) -> Result<(), Fail> {
     let lines = every_advice(rt.alloc())?;
-    assert_same(&rt, &lines.len(), &110);
+    assert_same(&rt, &lines.len(), &111);
     for (i, advice) in lines.iter().enumerate() {
         assert_at(&rt, is_short(advice), advice);
         let is_new = lines[..i].iter().all(|line| line != advice);

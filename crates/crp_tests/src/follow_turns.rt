@@ -74,6 +74,7 @@ fn followed_to<R: Source, P: Sink, W: Sink>(
         loaded: None,
         partial: false,
         summary: false,
+        separator: b',',
     };
     let mut listed = Listed {
         yard,

@@ -26,7 +26,7 @@ fn shows_help(rt: HostRuntime) {
 }
 
 // What the help of `solve` says of its words, its options and their defaults.
-const HELP: [&str; 32] = [
+const HELP: [&str; 34] = [
     "Usage: crp solve [OPTIONS] <YARD> <MOVINS>",
     "--rows <N>",
     "1 to 12 [default: 6]",
@@ -34,6 +34,8 @@ const HELP: [&str; 32] = [
     "1 to 8 [default: 5]",
     "--heights <HEIGHTS>",
     "--sizes <FILE>",
+    "--separator <C>",
+    "[default: ,]",
     "--order <ORDER>",
     "[default: listed]",
     "--code <TEXT>",
@@ -80,7 +82,7 @@ fn help_states_options_and_defaults(rt: HostRuntime) {
         assert_at(&rt, says(&help, piece), &piece);
     }
     let help = help_of(rt.alloc(), &["bound", "--help"]);
-    for piece in ["Usage: crp bound [OPTIONS] <FILE>", "--chains"] {
+    for piece in ["Usage: crp bound [OPTIONS] <FILE>", "--chains", "--json"] {
         assert_at(&rt, says(&help, piece), &piece);
     }
 }

@@ -5,11 +5,12 @@ use std::alloc::{AllocError, Global};
 pub(crate) const REPORT: &str = "audited-report.txt";
 
 // The options of `solve` that say what its input means.
-const OF_INPUT: [&str; 8] = [
+const OF_INPUT: [&str; 9] = [
     "--rows",
     "--tiers",
     "--heights",
     "--sizes",
+    "--separator",
     "--order",
     "--code",
     "--message",

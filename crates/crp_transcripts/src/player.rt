@@ -4,7 +4,7 @@ use crate::blocks::{Block, Mark, blocks_of};
 use crate::ticking::Ticking;
 use crp_commands::{NoTerminal, Streams};
 use crp_files::SystemFiles;
-use crp_json::{Begun, JsonLines};
+use crp_json::{Begun, JsonLines, Printed};
 use crp_plan::{Counted, Received, write_all};
 use crp_words::{json_head, run_words};
 use std::alloc::{AllocError, Global};
@@ -140,11 +140,11 @@ fn run<T: Threads + Wait + Sync>(
 ) -> io::Result<bool> {
     let (words, input) = words_of(rt, block.words)?;
     let input = input_of(rt, input)?;
-    let head = json_head(rt.alloc(), &words).unwrap_or(None);
+    let (printed, head) = json_head(rt.alloc(), &words).unwrap_or((Printed::Report, None));
     let received = Received::new(rt.alloc());
     let mut streams = Streams {
         input: input.as_slice(),
-        out: JsonLines::<_, Empty>::new(rt.alloc(), received, head),
+        out: JsonLines::<_, Empty>::new(rt.alloc(), received, printed, head),
         errors: Received::new(rt.alloc()),
     };
     played.status = run_words(

@@ -14,12 +14,13 @@ use Rattle.crp_words.proofs.Lacking.{lacks_more, no_workers_fault, other_name}
 check_asks : (rows : List Row) (j : Job) → Asks (codes "check") rows j → ((n : ℕ) × HasWorkers rows n) × ((file : Text) × HasText (codes "file") rows file)
 check_asks rows (job.OneFile file command.Replay stop) asks = absurd (other_name 99 114 _ _ (omega arith) asks.0)
 check_asks rows (job.OneFile file command.Rewrite stop) asks = absurd (other_name 99 114 _ _ (omega arith) asks.0)
-check_asks rows (job.OneFile file (command.Bound chains) stop) asks = absurd (other_name 99 98 _ _ (omega arith) asks.0.0)
-check_asks rows (job.OneFile file (command.Check any_size workers) stop) asks = ((workers, asks.0.2), (file.now, asks.1))
+check_asks rows (job.OneFile file (command.Bound chains json) stop) asks = absurd (other_name 99 98 _ _ (omega arith) asks.0.0)
+check_asks rows (job.OneFile file (command.Check any_size workers json) stop) asks = ((workers, asks.0.2), (file.now, asks.1))
 check_asks rows (job.OneFile file (command.Prove search) stop) asks = absurd (other_name 99 112 _ _ (omega arith) asks.0.0)
 check_asks rows (job.Absent names settings) asks = absurd (other_name 99 97 _ _ (omega arith) asks.0)
 check_asks rows (job.Audit names settings) asks = absurd (other_name 99 97 _ _ (omega arith) asks.0)
 check_asks rows (job.Follow names settings) asks = absurd (other_name 99 102 _ _ (omega arith) asks.0)
+check_asks rows (job.Compare names settings) asks = absurd (other_name 99 102 _ _ (omega arith) asks.0)
 check_asks rows (job.Solve names settings quiet progress) asks = absurd (other_name 99 115 _ _ (omega arith) asks.0)
 
 check_fault : (rows : List Row) (f : SettingFault) → IsFault (codes "check") rows f → IsJust setting.Workers (AreWorkersBeyond rows) f

@@ -2,9 +2,8 @@
 use Rattle.std.proofs.Common.{◌≡◌, ◌∙◌, ℕ, List, Option, Some, None, refl, sym, inl, inr, arith, codes}
 use Rattle.clap.specs.Words.{Row, Text}
 use Rattle.crp_report.specs.Chosen.{InputChosen}
-use Rattle.crp_words.specs.Words.{AreFollowWordsClear, Asks, HasFollowFiles, HasInput, HasText, IsFault, IsFollowNamedTwice, IsInputFault, IsLoadedAlone, IsOrderedAlone, IsSizedTwice, IsWordsOrMemory, Lacks, MayHaveNumber, MayNameAfter, NoFault}
+use Rattle.crp_words.specs.Words.{AreFollowWordsClear, Asks, HasInput, HasSeparator, HasText, IsComparedBeside, IsFault, IsFollowNamedTwice, IsInputFault, IsLoadedAlone, IsOneReport, IsOrderedAlone, IsSizedTwice, IsWordsOrMemory, Lacks, MayHaveNumber, MayNameAfter, NoFault}
 use Rattle.crp_jobs.specs.declared.job.AfterFile.{AfterFile}
-use Rattle.crp_jobs.specs.declared.job.FollowFiles.{FollowFiles}
 use Rattle.crp_jobs.specs.declared.job.Job.{Job}
 use Rattle.crp_jobs.specs.declared.job.FileCommand.TheVariants as command
 use Rattle.crp_jobs.specs.declared.job.Job.TheVariants as job
@@ -12,16 +11,43 @@ use Rattle.crp_words.specs.declared.usage.SettingFault.{SettingFault}
 use Rattle.crp_words.specs.declared.usage.Usage.{Usage}
 use Rattle.crp_words.proofs.Lacking.{lacks, lacks_more, no_input_fault, other_name}
 
-follow_asks : (rows : List Row) (j : Job) → Asks (codes "follow") rows j
-    → AreFollowWordsClear rows × ((s : InputChosen) × HasInput rows s) × ((names : FollowFiles) × HasFollowFiles rows names)
+-- what stands in the files of a job of follow, and where there is one report in the file of the yard after
+pub record FindsFiles (rows : List Row) : Type 0 where
+  pub yard : (text : Text) × HasText (codes "yard") rows text
+  pub report : (text : Text) × HasText (codes "report") rows text
+  pub after : IsOneReport rows → (after : Option AfterFile) × MayNameAfter rows after
+  pub separator : (separator : ℕ) × HasSeparator rows separator
+
+follow_asks : (rows : List Row) (j : Job) → Asks (codes "follow") rows j → AreFollowWordsClear rows × ((s : InputChosen) × HasInput rows s) × FindsFiles rows
 follow_asks rows (job.OneFile file command.Replay stop) asks = absurd (other_name 102 114 _ _ (omega arith) asks.0)
 follow_asks rows (job.OneFile file command.Rewrite stop) asks = absurd (other_name 102 114 _ _ (omega arith) asks.0)
-follow_asks rows (job.OneFile file (command.Bound chains) stop) asks = absurd (other_name 102 98 _ _ (omega arith) asks.0.0)
-follow_asks rows (job.OneFile file (command.Check any_size workers) stop) asks = absurd (other_name 102 99 _ _ (omega arith) asks.0.0)
+follow_asks rows (job.OneFile file (command.Bound chains json) stop) asks = absurd (other_name 102 98 _ _ (omega arith) asks.0.0)
+follow_asks rows (job.OneFile file (command.Check any_size workers json) stop) asks = absurd (other_name 102 99 _ _ (omega arith) asks.0.0)
 follow_asks rows (job.OneFile file (command.Prove search) stop) asks = absurd (other_name 102 112 _ _ (omega arith) asks.0.0)
 follow_asks rows (job.Absent names settings) asks = absurd (other_name 102 97 _ _ (omega arith) asks.0)
 follow_asks rows (job.Audit names settings) asks = absurd (other_name 102 97 _ _ (omega arith) asks.0)
-follow_asks rows (job.Follow names settings) asks = (asks.1, (settings, asks.3), (names, asks.2))
+follow_asks rows (job.Follow names settings) asks =
+    let files = asks.3 in (
+      asks.1,
+      (settings, asks.4),
+      record {
+        yard = (names.yard.now, files.0);
+        report = (names.report.now, files.1);
+        after = λ one. (names.after, files.5);
+        separator = (names.separator, files.8);
+      },
+    )
+follow_asks rows (job.Compare names settings) asks =
+    let files = asks.2 in (
+      asks.1,
+      (settings, asks.3),
+      record {
+        yard = (names.yard.now, files.0);
+        report = (names.report.now, files.1);
+        after = λ one. (let e : Some names.second.now ≡ None = sym files.2 ∙ one in absurd cc);
+        separator = (names.separator, files.5);
+      },
+    )
 follow_asks rows (job.Solve names settings quiet progress) asks = absurd (other_name 102 115 _ _ (omega arith) asks.0)
 
 follow_fault : (rows : List Row) (f : SettingFault) → IsFault (codes "follow") rows f
@@ -41,10 +67,10 @@ no_follow rows u clear = lacks_more (HasInput rows) (Asks (codes "follow") rows)
 
 -- so with one, and without a part of its files
 pub no_part : {X : Type 0} (Has : X → Type 0) (rows : List Row) (s : InputChosen) (u : Usage)
-    → ((names : FollowFiles) → HasFollowFiles rows names → (x : X) × Has x)
+    → (FindsFiles rows → (x : X) × Has x)
     → HasInput rows s → Lacks Has NoFault u → Lacks (Asks (codes "follow") rows) (IsFault (codes "follow") rows) u
 no_part Has rows s u part_in has = lacks_more Has (Asks (codes "follow") rows) NoFault (IsFault (codes "follow") rows) u
-    (λ j asks. let files = (follow_asks rows j asks).2 in part_in files.0 files.1) (λ f none. absurd none)
+    (λ j asks. part_in (follow_asks rows j asks).2) (λ f none. absurd none)
     (λ f first. absurd (no_input_fault rows s has f (follow_fault rows f first).1))
 
 -- nor without a number for the yard after, where that is wanted
@@ -79,3 +105,9 @@ pub follow_named_twice : (rows : List Row) (u : Usage) → IsFollowNamedTwice ro
     → Lacks (Asks (codes "follow") rows) (IsFault (codes "follow") rows) u
 follow_named_twice rows u twice words = lacks (Asks (codes "follow") rows) (IsFault (codes "follow") rows) u words
     (λ j asks. (follow_asks rows j asks).0.3 twice) (λ f first. (follow_fault rows f first).0.3 twice)
+
+-- nor where a second report is given beside what is made of one
+pub follow_compared_beside : (rows : List Row) (u : Usage) → IsComparedBeside rows → IsWordsOrMemory u
+    → Lacks (Asks (codes "follow") rows) (IsFault (codes "follow") rows) u
+follow_compared_beside rows u beside words = lacks (Asks (codes "follow") rows) (IsFault (codes "follow") rows) u words
+    (λ j asks. (follow_asks rows j asks).0.4 beside) (λ f first. (follow_fault rows f first).0.4 beside)

@@ -6,7 +6,7 @@ use Rattle.clap.specs.Words.{Row, Text, first_of}
 use Rattle.clap.specs.Matches.{ReadsOne}
 use Rattle.crp_solve.specs.Chosen.{Chosen}
 use Rattle.crp_solve.specs.declared.settings.TimeLimits.{TimeLimits}
-use Rattle.crp_words.specs.Words.{Asks, HasBudget, HasNumber, HasNumberBeyond, HasNumberWithin, FindsSizes, FindsRows, FindsBays, AreBaysBeyond, HasInput, HasUntimed, HasSplit, HasBeam, HasThin, HasFlags, HasNumberOrStrong, HasOwnNumberBeyond, FindsTiers, HasWorkers, MayFindHeights, IsBudgetBeyond, IsSplitBeyond, IsBeamBeyond, IsThinBeyond, IsLeftToStrong, AreRowsBeyond, AreTiersBeyond, AreHeightsBeyond, AreWorkersBeyond, IsFault, IsInputFault, IsJust, IsSearchFault, IsSizedTwice, IsWordsOrMemory, Lacks, MayHaveNumber, NoFault, ReadsNumber}
+use Rattle.crp_words.specs.Words.{Asks, HasBudget, HasNumber, HasNumberBeyond, HasNumberWithin, FindsSizes, FindsRows, FindsBays, AreBaysBeyond, HasInput, HasUntimed, HasSplit, HasBeam, HasThin, HasFlags, HasNumberOrStrong, HasOwnNumberBeyond, FindsTiers, HasWorkers, MayFindHeights, IsBudgetBeyond, IsSplitBeyond, IsBeamBeyond, IsThinBeyond, IsLeftToStrong, AreRowsBeyond, AreTiersBeyond, AreHeightsBeyond, AreWorkersBeyond, IsFault, IsInputFault, IsJust, IsSearchFault, IsSizedTwice, IsWordsOrMemory, Lacks, MayHaveNumber, NoFault, ReadsNumber, HasSeparator, HasText, separator_in}
 use Rattle.crp_jobs.specs.declared.job.Job.{Job}
 use Rattle.crp_plan.specs.BayNames.{YardBay}
 use Rattle.crp_sizes.specs.Heights.{IsHeightsText}
@@ -357,6 +357,22 @@ pub no_input_part : {X : Type 0} (Has : X → Type 0) (rows : List Row) (sizes :
 no_input_part Has rows sizes bays u has named part_in = lacks_more Has (HasInput rows) NoFault (IsInputFault rows) u part_in
     (λ f none. absurd none) (λ f first. absurd (found_faultless rows sizes bays has named f first))
 
+-- a text is no byte between fields where there is none in it
+pub no_separator_in : (rows : List Row) (text : Text) (u : Usage) → HasText (codes "separator") rows text → separator_in text ≡ None → IsWordsOrMemory u
+    → Lacks (HasSeparator rows) NoFault u
+no_separator_in rows text u has none words = lacks (HasSeparator rows) NoFault u words without (λ f at. at)
+  where
+    without : (n : ℕ) → HasSeparator rows n → ⊥
+    without n (other, found, is) =
+        let some : Some text ≡ Some other = sym has ∙ found in
+        let same : text ≡ other = cc in
+        let both : None ≡ Some n = sym none ∙ ap separator_in same ∙ is in
+        cc
+
+-- nor where there is no text
+pub no_separator_text : (rows : List Row) (u : Usage) → Lacks (HasText (codes "separator") rows) NoFault u → Lacks (HasSeparator rows) NoFault u
+no_separator_text rows u = lacks_more (HasText (codes "separator") rows) (HasSeparator rows) NoFault NoFault u (λ n has. (has.0, has.1)) (λ f none. none) (λ f none. absurd none)
+
 -- without heights of rows there is no input
 pub no_size : (rows : List Row) (u : Usage) → Lacks (FindsSizes rows) (IsInputFault rows) u → Lacks (HasInput rows) (IsInputFault rows) u
 no_size rows u = lacks_more (FindsSizes rows) (HasInput rows) (IsInputFault rows) (IsInputFault rows) u (λ s has. (s.sizes, has.0)) (λ f first. first) (λ f first. inl first)
@@ -374,16 +390,18 @@ other_name a b m n other same = other (ap (λ (l : Text). slice_index l 0) same)
 pub other_second : (first a b : ℕ) (m n : Text) → a ≢ b → first ∷ a ∷ m ≡ first ∷ b ∷ n → ⊥
 other_second first a b m n other same = other (ap (λ (l : Text). slice_index l 1) same)
 
--- what audit asks for has an input, and its size once
-audit_asks : (rows : List Row) (j : Job) → Asks (codes "audit") rows j → ¬ IsSizedTwice rows × ((s : InputChosen) × HasInput rows s)
+-- what audit asks for has an input, its size once, and a byte between fields
+audit_asks : (rows : List Row) (j : Job) → Asks (codes "audit") rows j
+    → ¬ IsSizedTwice rows × ((s : InputChosen) × HasInput rows s) × ((n : ℕ) × HasSeparator rows n)
 audit_asks rows (job.OneFile file command.Replay stop) asks = absurd (other_name 97 114 _ _ (omega arith) asks.0)
 audit_asks rows (job.OneFile file command.Rewrite stop) asks = absurd (other_name 97 114 _ _ (omega arith) asks.0)
-audit_asks rows (job.OneFile file (command.Bound chains) stop) asks = absurd (other_name 97 98 _ _ (omega arith) asks.0.0)
-audit_asks rows (job.OneFile file (command.Check any_size workers) stop) asks = absurd (other_name 97 99 _ _ (omega arith) asks.0.0)
+audit_asks rows (job.OneFile file (command.Bound chains json) stop) asks = absurd (other_name 97 98 _ _ (omega arith) asks.0.0)
+audit_asks rows (job.OneFile file (command.Check any_size workers json) stop) asks = absurd (other_name 97 99 _ _ (omega arith) asks.0.0)
 audit_asks rows (job.OneFile file (command.Prove search) stop) asks = absurd (other_name 97 112 _ _ (omega arith) asks.0.0)
 audit_asks rows (job.Absent names settings) asks = absurd (other_second 97 117 98 _ _ (omega arith) asks.0)
-audit_asks rows (job.Audit names settings) asks = (asks.1, (settings, asks.3))
+audit_asks rows (job.Audit names settings) asks = (asks.1, (settings, asks.3), (names.separator, asks.2.6))
 audit_asks rows (job.Follow names settings) asks = absurd (other_name 97 102 _ _ (omega arith) asks.0)
+audit_asks rows (job.Compare names settings) asks = absurd (other_name 97 102 _ _ (omega arith) asks.0)
 audit_asks rows (job.Solve names settings quiet progress) asks = absurd (other_name 97 115 _ _ (omega arith) asks.0)
 
 audit_fault : (rows : List Row) (f : SettingFault) → IsFault (codes "audit") rows f → ¬ IsSizedTwice rows × IsInputFault rows f
@@ -399,6 +417,12 @@ pub no_audit : (rows : List Row) (u : Usage) → ¬ IsSizedTwice rows → Lacks 
     → Lacks (Asks (codes "audit") rows) (IsFault (codes "audit") rows) u
 no_audit rows u once = lacks_more (HasInput rows) (Asks (codes "audit") rows) (IsInputFault rows) (IsFault (codes "audit") rows) u
     (λ j asks. (audit_asks rows j asks).1) (λ f first. inr (inr (inl (refl, (once, first))))) (λ f first. inl (audit_fault rows f first).1)
+
+-- so with one, and without a byte between fields
+pub no_audit_separator : (rows : List Row) (s : InputChosen) (u : Usage) → HasInput rows s → Lacks (HasSeparator rows) NoFault u
+    → Lacks (Asks (codes "audit") rows) (IsFault (codes "audit") rows) u
+no_audit_separator rows s u has = lacks_more (HasSeparator rows) (Asks (codes "audit") rows) NoFault (IsFault (codes "audit") rows) u
+    (λ j asks. (audit_asks rows j asks).2) (λ f none. absurd none) (λ f first. absurd (no_input_fault rows s has f (audit_fault rows f first).1))
 
 -- nor does it where its size is given twice
 pub audit_sized_twice : (rows : List Row) (u : Usage) → IsSizedTwice rows → IsWordsOrMemory u

@@ -4,7 +4,7 @@ use Rattle.clap.specs.Words.{Row, Text}
 use Rattle.crp_solve.specs.Chosen.{Chosen}
 use Rattle.crp_solve.specs.declared.settings.TimeLimits.{TimeLimits}
 use Rattle.crp_report.specs.Chosen.{InputChosen, RunChosen}
-use Rattle.crp_words.specs.Words.{Asks, HasFiles, HasInput, HasSearch, HasSettings, HasText, HasTime, HasUntimed, IsFault, IsInputFault, IsNamedTwice, IsProveFault, IsSearchFault, IsSizedTwice, IsSolveFault, IsTimeFault, IsWordsOrMemory, Lacks, NoFault}
+use Rattle.crp_words.specs.Words.{HasSeparator, Asks, HasFiles, HasInput, HasSearch, HasSettings, HasText, HasTime, HasUntimed, IsFault, IsInputFault, IsNamedTwice, IsProveFault, IsSearchFault, IsSizedTwice, IsSolveFault, IsTimeFault, IsWordsOrMemory, Lacks, NoFault}
 use Rattle.crp_jobs.specs.declared.job.Job.{Job}
 use Rattle.crp_jobs.specs.declared.job.RunFiles.{RunFiles}
 use Rattle.crp_jobs.specs.declared.job.FileCommand.TheVariants as command
@@ -56,12 +56,13 @@ no_time rows s i u search input = lacks_more (HasTime rows) (HasSettings rows) (
 prove_asks : (rows : List Row) (j : Job) → Asks (codes "prove") rows j → ((s : Chosen) × HasSearch rows s) × ((file : Text) × HasText (codes "file") rows file)
 prove_asks rows (job.OneFile file command.Replay stop) asks = absurd (other_name 112 114 _ _ (omega arith) asks.0)
 prove_asks rows (job.OneFile file command.Rewrite stop) asks = absurd (other_name 112 114 _ _ (omega arith) asks.0)
-prove_asks rows (job.OneFile file (command.Bound chains) stop) asks = absurd (other_name 112 98 _ _ (omega arith) asks.0.0)
-prove_asks rows (job.OneFile file (command.Check any_size workers) stop) asks = absurd (other_name 112 99 _ _ (omega arith) asks.0.0)
+prove_asks rows (job.OneFile file (command.Bound chains json) stop) asks = absurd (other_name 112 98 _ _ (omega arith) asks.0.0)
+prove_asks rows (job.OneFile file (command.Check any_size workers json) stop) asks = absurd (other_name 112 99 _ _ (omega arith) asks.0.0)
 prove_asks rows (job.OneFile file (command.Prove search) stop) asks = ((search, asks.0.1), (file.now, asks.1))
 prove_asks rows (job.Absent names settings) asks = absurd (other_name 112 97 _ _ (omega arith) asks.0)
 prove_asks rows (job.Audit names settings) asks = absurd (other_name 112 97 _ _ (omega arith) asks.0)
 prove_asks rows (job.Follow names settings) asks = absurd (other_name 112 102 _ _ (omega arith) asks.0)
+prove_asks rows (job.Compare names settings) asks = absurd (other_name 112 102 _ _ (omega arith) asks.0)
 prove_asks rows (job.Solve names settings quiet progress) asks = absurd (other_name 112 115 _ _ (omega arith) asks.0)
 
 -- a fault of prove is that of its settings
@@ -108,12 +109,13 @@ solve_asks : (rows : List Row) (j : Job) → Asks (codes "solve") rows j
     → ¬ IsSizedTwice rows × ¬ IsNamedTwice rows × ((names : RunFiles) × HasFiles rows names) × ((s : RunChosen) × HasSettings rows s)
 solve_asks rows (job.OneFile file command.Replay stop) asks = absurd (other_name 115 114 _ _ (omega arith) asks.0)
 solve_asks rows (job.OneFile file command.Rewrite stop) asks = absurd (other_name 115 114 _ _ (omega arith) asks.0)
-solve_asks rows (job.OneFile file (command.Bound chains) stop) asks = absurd (other_name 115 98 _ _ (omega arith) asks.0.0)
-solve_asks rows (job.OneFile file (command.Check any_size workers) stop) asks = absurd (other_name 115 99 _ _ (omega arith) asks.0.0)
+solve_asks rows (job.OneFile file (command.Bound chains json) stop) asks = absurd (other_name 115 98 _ _ (omega arith) asks.0.0)
+solve_asks rows (job.OneFile file (command.Check any_size workers json) stop) asks = absurd (other_name 115 99 _ _ (omega arith) asks.0.0)
 solve_asks rows (job.OneFile file (command.Prove search) stop) asks = absurd (other_name 115 112 _ _ (omega arith) asks.0.0)
 solve_asks rows (job.Absent names settings) asks = absurd (other_name 115 97 _ _ (omega arith) asks.0)
 solve_asks rows (job.Audit names settings) asks = absurd (other_name 115 97 _ _ (omega arith) asks.0)
 solve_asks rows (job.Follow names settings) asks = absurd (other_name 115 102 _ _ (omega arith) asks.0)
+solve_asks rows (job.Compare names settings) asks = absurd (other_name 115 102 _ _ (omega arith) asks.0)
 solve_asks rows (job.Solve names settings quiet progress) asks = (asks.1, asks.2, (names, asks.3), (settings, asks.4))
 
 solve_fault : (rows : List Row) (f : SettingFault) → IsFault (codes "solve") rows f → ¬ IsSizedTwice rows × ¬ IsNamedTwice rows × IsSolveFault rows f
@@ -146,6 +148,12 @@ pub no_movins : (rows : List Row) (s : RunChosen) (u : Usage) → HasSettings ro
     → Lacks (Asks (codes "solve") rows) (IsFault (codes "solve") rows) u
 no_movins rows s u has = lacks_more (HasText (codes "movins") rows) (Asks (codes "solve") rows) NoFault (IsFault (codes "solve") rows) u
     (λ j asks. let files = (solve_asks rows j asks).2 in (files.0.movins.now, files.1.1)) (λ f none. absurd none)
+    (λ f first. absurd (no_settings_fault rows s has f (solve_fault rows f first).2))
+
+pub no_solve_separator : (rows : List Row) (s : RunChosen) (u : Usage) → HasSettings rows s → Lacks (HasSeparator rows) NoFault u
+    → Lacks (Asks (codes "solve") rows) (IsFault (codes "solve") rows) u
+no_solve_separator rows s u has = lacks_more (HasSeparator rows) (Asks (codes "solve") rows) NoFault (IsFault (codes "solve") rows) u
+    (λ j asks. let files = (solve_asks rows j asks).2 in (files.0.separator, files.1.7)) (λ f none. absurd none)
     (λ f first. absurd (no_settings_fault rows s has f (solve_fault rows f first).2))
 
 -- nor does it where its size is given twice

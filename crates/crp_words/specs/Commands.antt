@@ -80,7 +80,7 @@ quiet_rule = flag_rule (codes "quiet")
 abbrev pub progress_rule : Rule
 progress_rule = flag_rule (codes "progress")
 
--- whether the report is printed as JSON Lines: it is not where the flag is not given
+-- whether what is written is printed as JSON Lines: it is not where the flag is not given
 abbrev pub json_rule : Rule
 json_rule = flag_rule (codes "json")
 
@@ -148,9 +148,13 @@ with_searches shape = with_option total_seconds_rule (with_search shape)
 abbrev pub with_rows : Shape → Shape
 with_rows shape = with_option (number_rule (codes "tiers") (codes "5")) (with_option (number_rule (codes "rows") (codes "6")) shape)
 
--- a command with these, [--heights HEIGHTS] in place of them, and [--sizes FILE]
+-- the byte between the fields of lists: a comma where it is not given
+abbrev pub separator_rule : Rule
+separator_rule = text_rule (codes "separator") (codes ",")
+
+-- a command with these, [--heights HEIGHTS] in place of them, [--sizes FILE], and [--separator C]
 abbrev pub with_size : Shape → Shape
-with_size shape = with_option (optional_rule (codes "sizes")) (with_option (optional_rule (codes "heights")) (with_rows shape))
+with_size shape = with_option separator_rule (with_option (optional_rule (codes "sizes")) (with_option (optional_rule (codes "heights")) (with_rows shape)))
 
 -- a command with [--order listed|stowage] [--code TEXT] [--message REFERENCE]..
 abbrev pub with_orders : Shape → Shape
@@ -185,13 +189,21 @@ with_partial shape = with_option partial_rule shape
 abbrev pub with_summary : Shape → Shape
 with_summary shape = with_option summary_rule shape
 
--- bound FILE [--chains]
-abbrev pub bound : Shape
-bound = with_option chains_rule (leaf (codes "bound"))
+-- a command with [--compare REPORT2]
+abbrev pub with_compare : Shape → Shape
+with_compare shape = with_option (optional_rule (codes "compare")) shape
 
--- check FILE [--any-size] [--workers N]
+-- a command with [--json]
+abbrev pub with_json : Shape → Shape
+with_json shape = with_option json_rule shape
+
+-- bound FILE [--chains] [--json]
+abbrev pub bound : Shape
+bound = with_json (with_option chains_rule (leaf (codes "bound")))
+
+-- check FILE [--any-size] [--workers N] [--json]
 abbrev pub check : Shape
-check = with_option workers_rule (with_option (flag_rule (codes "any-size")) (leaf (codes "check")))
+check = with_json (with_option workers_rule (with_option (flag_rule (codes "any-size")) (leaf (codes "check"))))
 
 -- prove FILE, with the options of a search
 abbrev pub prove : Shape
@@ -210,18 +222,18 @@ abbrev pub audit_files : Shape
 audit_files = command (codes "audit")
     (file_rule (codes "yard") ∷ file_rule (codes "movins") ∷ file_rule (codes "report") ∷ file_rule (codes "certificates") ∷ [])
 
--- audit, with its options: the size of the bays, the order of leaving, and whether the report may end early
+-- audit, with its options: the size of the bays, the order of leaving, whether the report may end early, and whether it prints JSON Lines
 abbrev pub audit : Shape
-audit = with_partial (with_bays (with_size audit_files))
+audit = with_json (with_partial (with_bays (with_size audit_files)))
 
 -- follow YARD REPORT [MOVINS], without its options
 abbrev pub follow_files : Shape
 follow_files = command (codes "follow") (file_rule (codes "yard") ∷ file_rule (codes "report") ∷ more_rule (codes "movins") ∷ [])
 
--- follow, with its options: the size of the bays, the order of leaving, the page, the yard after, whether the report may end early, and whether the table is
--- that of the bays
+-- follow, with its options: the size of the bays, the order of leaving, the page, the yard after, whether the report may end early, whether the table is that
+-- of the bays, and a second report
 abbrev pub follow : Shape
-follow = with_summary (with_partial (with_after (with_page (with_bays (with_size follow_files)))))
+follow = with_compare (with_summary (with_partial (with_after (with_page (with_bays (with_size follow_files))))))
 
 -- absent YARD MOVINS, without its options
 abbrev pub absent_files : Shape

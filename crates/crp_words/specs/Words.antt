@@ -1,6 +1,7 @@
 -- What the words of the command line ask for.
-use Rattle.std.specs.Prelude.{◌≡◌, ℕ, ◌≢◌, ◌↔◌, Bool, IsTrue, ◌⊎◌, ◌==◌, ◌<◌, ◌≤◌, ◌^◌, List, [], ◌∷◌, ◌++◌, length, map, take, drop, if◌then◌else◌, codes, Option, Some, None, option_map, option_and_then, find, is_some, replicate, unwrap_or, decimal, ⊤}
+use Rattle.std.specs.Prelude.{◌≡◌, ℕ, ◌≢◌, ◌↔◌, Bool, IsTrue, ◌⊎◌, ◌&&◌, ◌||◌, ◌==◌, ◌<◌, ◌≤◌, ◌^◌, List, [], ◌∷◌, ◌++◌, length, map, take, drop, if◌then◌else◌, codes, Option, Some, None, option_map, option_and_then, find, is_some, not, replicate, unwrap_or, decimal, ⊤}
 use Rattle.std.specs.List.{AllByRecursion}
+use Rattle.std.specs.Char.{is_ascii_punctuation}
 use Rattle.std.specs.Str.{bytes_eq}
 use Rattle.std.specs.Str.Parse.{IsNumeral, digits_value, without_leading_plus}
 use denote.Ref.{Bor}
@@ -24,6 +25,7 @@ use Rattle.crp_jobs.specs.declared.job.Job.TheVariants as job
 use Rattle.crp_jobs.specs.declared.job.AbsentFiles.{AbsentFiles}
 use Rattle.crp_jobs.specs.declared.job.AfterFile.{AfterFile}
 use Rattle.crp_jobs.specs.declared.job.AuditFiles.{AuditFiles}
+use Rattle.crp_jobs.specs.declared.job.CompareFiles.{CompareFiles}
 use Rattle.crp_jobs.specs.declared.job.FollowFiles.{FollowFiles}
 use Rattle.crp_jobs.specs.declared.job.RunFiles.{RunFiles}
 use Rattle.crp_words.specs.declared.usage.Mistake.{Mistake}
@@ -273,21 +275,36 @@ HasSettings found s = HasSearch found s.search × HasInput found s.input
 abbrev pub MayNameSizes : List Row → Option (Bor Text) → Type 0
 MayNameSizes found name = first_of (codes "sizes") found ≡ option_map (λ text. text.now) name
 
--- the report is printed as JSON Lines exactly where the words give the flag
+-- the byte may stand between the fields of a list: a tab, or a sign of ASCII that is no quote
+abbrev pub may_separate : ℕ → Bool
+may_separate b = (b == 9) || (is_ascii_punctuation b && not (b == 34))
+
+-- the byte of a text of one byte that may
+abbrev pub separator_in : Text → Option ℕ
+separator_in [] = None
+separator_in (b ∷ []) = if may_separate b then Some b else None
+separator_in (b ∷ c ∷ text) = None
+
+-- the byte between the fields of lists that was found
+abbrev pub HasSeparator : List Row → ℕ → Type 0
+HasSeparator found separator = (text : Text) × HasText (codes "separator") found text × (separator_in text ≡ Some separator)
+
+-- what is written is printed as JSON Lines exactly where the words give the flag
 abbrev pub MayBeJson : List Row → Bool → Type 0
 MayBeJson found json = IsTrue json ↔ IsGivenByWords (codes "json") found
 
 -- the files of solve that were found: the two inputs, the list of sizes, if there is one, the outputs that are wanted, and the file that stops it, if there is one;
--- and whether its report is printed as JSON Lines
+-- whether its report is printed as JSON Lines; and the byte between the fields of its lists
 abbrev pub HasFiles : List Row → RunFiles → Type 0
 HasFiles found names = HasText (codes "yard") found names.yard.now × HasText (codes "movins") found names.movins.now
     × (first_of (codes "cert") found ≡ option_map (λ text. text.now) names.cert)
     × (first_of (codes "after") found ≡ option_map (λ text. text.now) names.after) × MayNameSizes found names.sizes × MayNameStop found names.stop
-    × MayBeJson found names.json
+    × MayBeJson found names.json × HasSeparator found names.separator
 
--- the files of absent that were found, and the list of sizes, if there is one
+-- the files of absent that were found, the list of sizes, if there is one, and the byte between the fields of lists
 abbrev pub HasAbsentFiles : List Row → AbsentFiles → Type 0
 HasAbsentFiles found names = HasText (codes "yard") found names.yard.now × HasText (codes "movins") found names.movins.now × MayNameSizes found names.sizes
+    × HasSeparator found names.separator
 
 -- the report may end early exactly where the words give the flag
 abbrev pub MayEndEarly : List Row → Bool → Type 0
@@ -297,11 +314,12 @@ MayEndEarly found partial = IsTrue partial ↔ IsGivenByWords (codes "partial") 
 abbrev pub IsOfBays : List Row → Bool → Type 0
 IsOfBays found summary = IsTrue summary ↔ IsGivenByWords (codes "summary") found
 
--- the files of audit that were found, and the list of sizes, if there is one; and whether the report may end early
+-- the files of audit that were found, and the list of sizes, if there is one; whether the report may end early; the byte between the fields of lists;
+-- and whether what is found is printed as JSON Lines
 abbrev pub HasAuditFiles : List Row → AuditFiles → Type 0
 HasAuditFiles found names = HasText (codes "yard") found names.yard.now × HasText (codes "movins") found names.movins.now
     × HasText (codes "report") found names.report.now × HasText (codes "certificates") found names.certificates.now × MayNameSizes found names.sizes
-    × MayEndEarly found names.partial
+    × MayEndEarly found names.partial × HasSeparator found names.separator × MayBeJson found names.json
 
 -- the file of the yard after that was found, if one was, and how many containers the ship has by then, if that was found
 abbrev pub MayNameAfter : List Row → Option AfterFile → Type 0
@@ -309,12 +327,22 @@ MayNameAfter found None = first_of (codes "after") found ≡ None
 MayNameAfter found (Some file) = HasText (codes "after") found file.name.now × MayHaveNumber (codes "loaded") found file.loaded
 
 -- the files of follow that were found: the yard list and the report, the message and the list of sizes, if there are any, and the page and the yard after,
--- if they are wanted; whether the report may end early; and whether the table is that of the bays
+-- if they are wanted; whether the report may end early; whether the table is that of the bays; and the byte between the fields of lists
 abbrev pub HasFollowFiles : List Row → FollowFiles → Type 0
 HasFollowFiles found names = HasText (codes "yard") found names.yard.now × HasText (codes "report") found names.report.now
     × (first_of (codes "movins") found ≡ option_map (λ text. text.now) names.movins)
     × (first_of (codes "page") found ≡ option_map (λ text. text.now) names.page) × MayNameSizes found names.sizes × MayNameAfter found names.after
-    × MayEndEarly found names.partial × IsOfBays found names.summary
+    × MayEndEarly found names.partial × IsOfBays found names.summary × HasSeparator found names.separator
+
+-- the files of two reports that were found, and the list of sizes, if there is one; whether the reports may end early; and the byte between the fields of lists
+abbrev pub HasCompareFiles : List Row → CompareFiles → Type 0
+HasCompareFiles found names = HasText (codes "yard") found names.yard.now × HasText (codes "report") found names.report.now
+    × HasText (codes "compare") found names.second.now × MayNameSizes found names.sizes × MayEndEarly found names.partial
+    × HasSeparator found names.separator
+
+-- there is no second report
+abbrev pub IsOneReport : List Row → Type 0
+IsOneReport found = first_of (codes "compare") found ≡ None
 
 -- the name of a file without `./` in front
 abbrev pub plain_name : Text → Text
@@ -350,6 +378,15 @@ IsOrderedAlone found = (first_of (codes "movins") found ≡ None) × (IsGivenByW
 abbrev pub IsLoadedAlone : List Row → Type 0
 IsLoadedAlone found = IsGivenByWords (codes "loaded") found × ((first_of (codes "after") found ≡ None) ⊎ (first_of (codes "movins") found ≡ None))
 
+-- both reports are the standard input
+abbrev pub AreBothInput : List Row → Type 0
+AreBothInput found = HasText (codes "report") found (codes "-") × HasText (codes "compare") found (codes "-")
+
+-- a second report is given beside what is made of one: a message's order, the summary, the page or the yard after; or both are the standard input
+abbrev pub IsComparedBeside : List Row → Type 0
+IsComparedBeside found = IsGivenByWords (codes "compare") found × (IsGivenByWords (codes "movins") found ⊎ (IsGivenByWords (codes "summary") found
+    ⊎ (IsGivenByWords (codes "page") found ⊎ (IsGivenByWords (codes "after") found ⊎ AreBothInput found))))
+
 -- notes are left out exactly where the words give the flag
 abbrev pub MayBeQuiet : List Row → Bool → Type 0
 MayBeQuiet found quiet = IsTrue quiet ↔ IsGivenByWords (codes "quiet") found
@@ -366,17 +403,18 @@ MayWriteChains found chains = IsTrue chains ↔ IsGivenByWords (codes "chains") 
 abbrev pub MayBeAnySize : List Row → Bool → Type 0
 MayBeAnySize found any_size = IsTrue any_size ↔ IsGivenByWords (codes "any-size") found
 
--- the size of follow stands there once, what a message is read by beside a message, a count beside a message and the yard after, and each file that is written apart
+-- the size of follow stands there once, what a message is read by beside a message, a count beside a message and the yard after, each file that is written
+-- apart, and a second report by itself
 abbrev pub AreFollowWordsClear : List Row → Type 0
-AreFollowWordsClear found = ¬ IsSizedTwice found × ¬ IsOrderedAlone found × ¬ IsLoadedAlone found × ¬ IsFollowNamedTwice found
+AreFollowWordsClear found = ¬ IsSizedTwice found × ¬ IsOrderedAlone found × ¬ IsLoadedAlone found × ¬ IsFollowNamedTwice found × ¬ IsComparedBeside found
 
 -- ---- the job, or the first setting beyond its limits
 
 -- the command over one file and its rows ask for this
 abbrev pub AsksCommand : Text → List Row → FileCommand → Type 0
 AsksCommand name found command.Replay = name ≡ codes "replay"
-AsksCommand name found (command.Bound chains) = (name ≡ codes "bound") × MayWriteChains found chains
-AsksCommand name found (command.Check any_size workers) = (name ≡ codes "check") × MayBeAnySize found any_size × HasWorkers found workers
+AsksCommand name found (command.Bound chains json) = (name ≡ codes "bound") × MayWriteChains found chains × MayBeJson found json
+AsksCommand name found (command.Check any_size workers json) = (name ≡ codes "check") × MayBeAnySize found any_size × HasWorkers found workers × MayBeJson found json
 AsksCommand name found (command.Prove search) = (name ≡ codes "prove") × HasSearch found search
 AsksCommand name found command.Rewrite = name ≡ codes "rewrite"
 
@@ -387,7 +425,9 @@ Asks name found (job.Absent names settings) =
     (name ≡ codes "absent") × ¬ IsSizedTwice found × HasAbsentFiles found names × HasInput found settings
 Asks name found (job.Audit names settings) =
     (name ≡ codes "audit") × ¬ IsSizedTwice found × HasAuditFiles found names × HasInput found settings
-Asks name found (job.Follow names settings) = (name ≡ codes "follow") × AreFollowWordsClear found × HasFollowFiles found names × HasInput found settings
+Asks name found (job.Follow names settings) =
+    (name ≡ codes "follow") × AreFollowWordsClear found × IsOneReport found × HasFollowFiles found names × HasInput found settings
+Asks name found (job.Compare names settings) = (name ≡ codes "follow") × AreFollowWordsClear found × HasCompareFiles found names × HasInput found settings
 Asks name found (job.Solve names settings quiet progress) =
     (name ≡ codes "solve") × ¬ IsSizedTwice found × ¬ IsNamedTwice found × HasFiles found names × HasSettings found settings × MayBeQuiet found quiet × MayShowProgress found progress
 

@@ -1,11 +1,11 @@
 //! The command line: each command with its files and options.
 ghost use Rattle.std.specs.Prelude.{◌≡◌, IfOk};
 ghost use Rattle.clap.specs.Words.{App, app_of, with_subcommand};
-ghost use Rattle.crp_words.specs.Commands.{IsArg, IsCommand, absent as absent_shape, absent_files as absent_files_shape, alone, audit as audit_shape, audit_files as audit_files_shape, check as check_shape, crp, file_rule, flag_rule, follow as follow_shape, follow_files as follow_files_shape, leaf as leaf_shape, leaves, more_rule, prove as prove_shape, rewrite as rewrite_shape, solve as solve_shape, solve_files as solve_files_shape, top_command as top_shape, with_option};
+ghost use Rattle.crp_words.specs.Commands.{IsArg, IsCommand, absent as absent_shape, absent_files as absent_files_shape, alone, audit as audit_shape, audit_files as audit_files_shape, bound as bound_shape, check as check_shape, crp, file_rule, flag_rule, follow as follow_shape, follow_files as follow_files_shape, leaf as leaf_shape, leaves, more_rule, prove as prove_shape, rewrite as rewrite_shape, solve as solve_shape, solve_files as solve_files_shape, top_command as top_shape, with_option};
 
 use crate::options::{
-    flag, with_after, with_bays, with_orders, with_outputs, with_page, with_partial, with_search,
-    with_searches, with_size, with_summary, workers,
+    flag, with_after, with_bays, with_compare, with_json, with_orders, with_outputs, with_page,
+    with_partial, with_search, with_searches, with_size, with_summary, workers,
 };
 use clap::{Arg, Command};
 use std::alloc::{AllocError, Global};
@@ -135,7 +135,12 @@ fn audit<'a>(alloc: Global) -> Result<Command<'a>, AllocError>
 {
     let sized = with_size(alloc, audit_files(alloc)?)?;
     let ordered = with_bays(alloc, sized)?;
-    with_partial(alloc, ordered)
+    let early = with_partial(alloc, ordered)?;
+    with_json(
+        alloc,
+        early,
+        "Print what is found as JSON Lines, one object for each bay",
+    )
 }
 
 // The command `follow`, with its files, and without the options.
@@ -170,7 +175,8 @@ fn follow<'a>(alloc: Global) -> Result<Command<'a>, AllocError>
     let paged = with_page(alloc, ordered)?;
     let left = with_after(alloc, paged)?;
     let early = with_partial(alloc, left)?;
-    with_summary(alloc, early)
+    let summed = with_summary(alloc, early)?;
+    with_compare(alloc, summed)
 }
 
 // crp itself, without its commands.
@@ -210,10 +216,30 @@ fn check<'a>(alloc: Global) -> Result<Command<'a>, AllocError>
         "any-size",
         "Take more than 268435456 bytes too",
     )?;
-    command.arg(workers(
+    let worked = command.arg(workers(
         alloc,
         "Workers that check certificates side by side, 1 to 64",
-    ))
+    ))?;
+    with_json(
+        alloc,
+        worked,
+        "Print what they show as JSON Lines, one object for each certificate",
+    )
+}
+
+// The command `bound`.
+fn bound<'a>(alloc: Global) -> Result<Command<'a>, AllocError>
+    ensures { IfOk result (IsCommand bound_shape) }
+{
+    let command = leaf_with_flag(
+        alloc,
+        "bound",
+        "Print two lower bounds on the relocations of a certificate's bay",
+        HEAD,
+        "chains",
+        "Print also one by chains of containers that block, with their ranks",
+    )?;
+    with_json(alloc, command, "Print them as JSON Lines, in one object")
 }
 
 // crp with the commands that take a file, and no option of a search.
@@ -227,15 +253,7 @@ fn with_leaves<'a>(alloc: Global) -> Result<Command<'a>, AllocError>
         "Print the moves of a certificate's plan",
         HEAD,
     )?;
-    line.subcommand(leaf_with_flag(
-        alloc,
-        "bound",
-        "Print two lower bounds on the relocations of a certificate's bay",
-        HEAD,
-        "chains",
-        "Print also one by chains of containers that block, with their ranks",
-    )?)?
-    .subcommand(check(alloc)?)
+    line.subcommand(bound(alloc)?)?.subcommand(check(alloc)?)
 }
 
 // The command `rewrite`.

@@ -3,8 +3,9 @@ ghost use Rattle.std.specs.Prelude.{◌↔◌, IfOk, IfErr, IfSome, IfNone, IsTr
 ghost use Rattle.clap.specs.Words.{found_of, rows_of};
 ghost use Rattle.crp_words.specs.Words.{Asks, IsFault, IsFollowNamedTwice, IsLoadedAlone, IsOrderedAlone, Lacks, MayNameAfter, NoFault};
 
+use crate::compare_words::{COMPARED_BESIDE, compare_files_of, is_compared_beside};
 use crate::given::{is_given, is_missing, one_file, optional_number_of, same_file, text_of, wrong};
-use crate::input_words::{input_of, is_sized_twice};
+use crate::input_words::{input_of, is_sized_twice, separator_of};
 use crate::usage::Usage;
 use clap::ArgMatches;
 use crp_jobs::{AfterFile, FollowFiles, Job};
@@ -95,9 +96,17 @@ pub(crate) fn follow_of<'a>(alloc: Global, matches: &ArgMatches<'a>) -> Result<J
     if let Some(names) = named_twice(matches) {
         return Err(same_file(alloc, names));
     }
+    if is_compared_beside(matches) {
+        return Err(wrong(alloc, COMPARED_BESIDE));
+    }
     let settings = input_of(alloc, matches)?;
     let yard = text_of(alloc, matches, "yard")?;
     let report = text_of(alloc, matches, "report")?;
+    let separator = separator_of(alloc, matches)?;
+    if let Some(second) = matches.get_str("compare") {
+        let files = compare_files_of(matches, yard, report, second, separator);
+        return Ok(Job::Compare { files, settings });
+    }
     let after = after_of(alloc, matches)?;
     let files = FollowFiles {
         yard,
@@ -108,6 +117,7 @@ pub(crate) fn follow_of<'a>(alloc: Global, matches: &ArgMatches<'a>) -> Result<J
         movins: matches.get_str("movins"),
         page: matches.get_str("page"),
         after,
+        separator,
     };
     Ok(Job::Follow { files, settings })
 }

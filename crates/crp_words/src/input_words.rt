@@ -1,5 +1,5 @@
-//! What a yard list and a message mean, by the words: the heights of the rows, the order of leaving, what is read of the message, and the
-//! bays that a run is for.
+//! What a yard list and a message mean, by the words: the heights of the rows, the byte between fields, the order of leaving, what is read
+//! of the message, and the bays that a run is for.
 ghost use Rattle.std.specs.Prelude.{◌≡◌, ◌↔◌, [], IfOk, IfErr, IfSome, IsTrue, option_map};
 ghost use Rattle.clap.specs.Words.{found_of, rows_of};
 ghost use Rattle.crp_plan.specs.Faults.{HasTiers};
@@ -8,7 +8,7 @@ ghost use Rattle.crp_sizes.specs.Sizes.{one_size};
 ghost use Rattle.crp_report.specs.Chosen.{IsRowCount};
 ghost use Rattle.crp_words.specs.declared.usage.SettingFault.TheVariants as setting;
 ghost use Rattle.crp_words.specs.declared.usage.Usage.TheVariants as usage;
-ghost use Rattle.crp_words.specs.Words.{AreHeightsBeyond, FindsSizes, FindsRows, FindsTiers, HasInput, HasOrder, IsInputFault, IsJust, IsSizedTwice, Lacks, MayFindHeights, NoFault, heights_or};
+ghost use Rattle.crp_words.specs.Words.{AreHeightsBeyond, FindsSizes, FindsRows, FindsTiers, HasInput, HasOrder, HasSeparator, IsInputFault, IsJust, IsSizedTwice, Lacks, MayFindHeights, NoFault, heights_or, may_separate, separator_in};
 
 use crate::bays::{bays_of, messages_of};
 use crate::given::{is_given, number_within, text_of, wrong};
@@ -26,6 +26,10 @@ const MOST_ROWS: u64 = 12;
 
 // The most tiers of a bay.
 const MOST_TIERS: u64 = 8;
+
+// The refusal of what may not stand between the fields of a list.
+const NO_SEPARATOR: &str =
+    "error: the separator is one sign of ASCII, such as ';', that is no letter, digit, blank or quote, or a tab\n";
 
 // The heights of the rows, if they are given.
 fn heights_of(matches: &ArgMatches<'_>) -> Result<Option<ArrayVec<u8, MAX_ROWS>>, Usage>
@@ -60,6 +64,35 @@ fn order_of(alloc: Global, matches: &ArgMatches<'_>) -> Result<Mode, Usage>
         return Ok(Mode::Stowage);
     }
     Err(wrong(alloc, "error: the order is 'listed' or 'stowage'\n"))
+}
+
+// Whether the byte may stand between the fields of a list.
+fn may_separate(byte: u8) -> bool
+    ensures { result ≡ may_separate byte }
+{
+    byte == b'\t' || (byte.is_ascii_punctuation() && byte != b'"')
+}
+
+// The byte of a text of one byte that may.
+fn separator_in(text: &[u8]) -> Option<u8>
+    ensures { result ≡ separator_in text.now }
+{
+    match text {
+        [byte] if may_separate(*byte) => Some(*byte),
+        _ => None,
+    }
+}
+
+/// The byte between the fields of lists.
+pub(crate) fn separator_of(alloc: Global, matches: &ArgMatches<'_>) -> Result<u8, Usage>
+    ensures ok { IfOk result (HasSeparator (rows_of (found_of matches.now))) }
+    ensures err { IfErr result (Lacks (HasSeparator (rows_of (found_of matches.now))) NoFault) }
+{
+    let text = text_of(alloc, matches, "separator")?;
+    match separator_in(text.as_bytes()) {
+        Some(separator) => Ok(separator),
+        None => Err(wrong(alloc, NO_SEPARATOR)),
+    }
 }
 
 // How large bays are: so many rows with so many tiers, or rows of these heights, where they are given.

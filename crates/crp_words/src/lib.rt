@@ -8,6 +8,7 @@
 mod advice;
 mod bays;
 mod commands;
+mod compare_words;
 mod doing;
 mod ending;
 mod follow_words;

@@ -1,7 +1,7 @@
 //! The options of the command line.
 ghost use Rattle.std.specs.Prelude.{◌≡◌, IfOk};
 ghost use Rattle.clap.specs.Words.{Shape};
-ghost use Rattle.crp_words.specs.Commands.{IsArg, IsCommand, beam_rule, budget_rule, chains_rule, deepen_rule, first_rule, flag_rule, json_rule, number_rule, optional_number_rule, optional_rule, progress_rule, quiet_rule, repeated_rule, seconds_rule, split_rule, stop_rule, strong_rule, text_rule, thin_rule, total_seconds_rule, with_after, with_bays, with_orders, with_outputs, with_page, with_partial, with_search, with_searches, with_size, with_summary, with_ways, workers_rule};
+ghost use Rattle.crp_words.specs.Commands.{IsArg, IsCommand, beam_rule, budget_rule, chains_rule, deepen_rule, first_rule, flag_rule, json_rule, number_rule, optional_number_rule, optional_rule, progress_rule, quiet_rule, repeated_rule, seconds_rule, split_rule, stop_rule, strong_rule, text_rule, thin_rule, total_seconds_rule, with_after, with_bays, with_compare, with_json, with_orders, with_outputs, with_page, with_partial, with_search, with_searches, with_size, with_summary, with_ways, workers_rule};
 
 use clap::{Arg, ArgAction, Command, value_parser};
 use std::alloc::{AllocError, Global};
@@ -235,7 +235,7 @@ pub(crate) fn with_searches<'a>(
     with_search(alloc, command)?.arg(total_seconds(alloc))
 }
 
-// A command with the size of the bays.
+// A command with the size of the bays, and the byte between the fields of lists.
 pub(crate) fn with_size<'a>(alloc: Global, command: Command<'a>) -> Result<Command<'a>, AllocError>
     ensures { IfOk result (λ new. (shape : Shape) → IsCommand shape command.entry → IsCommand (with_size shape) new) }
 {
@@ -253,7 +253,19 @@ pub(crate) fn with_size<'a>(alloc: Global, command: Command<'a>) -> Result<Comma
         "FILE",
         "Sizes of bays that have another (CSV: block,bay,heights)",
     );
-    command.arg(rows)?.arg(tiers)?.arg(heights)?.arg(sizes)
+    let separator = text(
+        alloc,
+        "separator",
+        "C",
+        ",",
+        "Sign between the fields of lists, as ;",
+    );
+    command
+        .arg(rows)?
+        .arg(tiers)?
+        .arg(heights)?
+        .arg(sizes)?
+        .arg(separator)
 }
 
 // A command with the order of leaving, and what is to be loaded.
@@ -377,6 +389,17 @@ pub(crate) fn with_partial<'a>(
     ))
 }
 
+// A command that may print JSON Lines.
+pub(crate) fn with_json<'a>(
+    alloc: Global,
+    command: Command<'a>,
+    help: &'a str,
+) -> Result<Command<'a>, AllocError>
+    ensures { IfOk result (λ new. (shape : Shape) → IsCommand shape command.entry → IsCommand (with_json shape) new) }
+{
+    command.arg(flag(alloc, "json", help))
+}
+
 // A command with a table of the bays.
 pub(crate) fn with_summary<'a>(
     alloc: Global,
@@ -388,6 +411,21 @@ pub(crate) fn with_summary<'a>(
         alloc,
         "summary",
         "Print a table of the bays, one line for each, in place of that of the moves",
+    ))
+}
+
+// A command with a second report.
+pub(crate) fn with_compare<'a>(
+    alloc: Global,
+    command: Command<'a>,
+) -> Result<Command<'a>, AllocError>
+    ensures { IfOk result (λ new. (shape : Shape) → IsCommand shape command.entry → IsCommand (with_compare shape) new) }
+{
+    command.arg(optional(
+        alloc,
+        "compare",
+        "REPORT2",
+        "Print a table of the bays of both reports, with the difference of their relocations",
     ))
 }
 

@@ -1,12 +1,12 @@
 //! What the words of the command line ask for.
 ghost use Rattle.std.specs.Prelude.{◌≡◌, ◌≢◌, IfOk, IfErr, IfSome, IfNone, map, codes};
 ghost use Rattle.clap.specs.Words.{found_of, kind_of, rows_of};
-ghost use Rattle.crp_words.specs.Words.{Asks, HasSettings, IsFault, IsNamedTwice, IsSolveFault, Lacks, Refuses, ShowsKind, WordsAsk, words_or_default};
+ghost use Rattle.crp_words.specs.Words.{Asks, HasSettings, IsFault, IsNamedTwice, IsSolveFault, Lacks, MayBeJson, Refuses, ShowsKind, WordsAsk, words_or_default};
 
 use crate::commands::command_line;
 use crate::follow_words::follow_of;
 use crate::given::{is_given, one_file, same_file, text_of, wrong};
-use crate::input_words::{input_of, is_sized_twice};
+use crate::input_words::{input_of, is_sized_twice, separator_of};
 use crate::search_words::{search_of, stop_of, time_of, workers_of};
 use crate::usage::{Mistake, Usage};
 use clap::error::ErrorKind;
@@ -74,6 +74,13 @@ fn settings_of(alloc: Global, matches: &ArgMatches<'_>) -> Result<RunSettings, U
     Ok(RunSettings::new(search.with_time(time), input))
 }
 
+// Whether the words give the flag for JSON Lines.
+fn is_json(matches: &ArgMatches<'_>) -> bool
+    ensures { MayBeJson (rows_of (found_of matches.now)) result }
+{
+    is_given(matches, "json")
+}
+
 // What `prove` and its matches ask for.
 fn prove_of<'a>(alloc: Global, matches: &ArgMatches<'a>) -> Result<Job<'a>, Usage>
     ensures ok { IfOk result (Asks (codes "prove") (rows_of (found_of matches.now))) }
@@ -101,6 +108,7 @@ fn check_of<'a>(alloc: Global, matches: &ArgMatches<'a>) -> Result<Job<'a>, Usag
         command: FileCommand::Check {
             any_size: is_given(matches, "any-size"),
             workers,
+            json: is_json(matches),
         },
         stop: stop_of(matches),
     })
@@ -120,6 +128,7 @@ fn solve_of<'a>(alloc: Global, matches: &ArgMatches<'a>) -> Result<Job<'a>, Usag
     let settings = settings_of(alloc, matches)?;
     let yard = text_of(alloc, matches, "yard")?;
     let movins = text_of(alloc, matches, "movins")?;
+    let separator = separator_of(alloc, matches)?;
     let files = RunFiles {
         yard,
         movins,
@@ -128,6 +137,7 @@ fn solve_of<'a>(alloc: Global, matches: &ArgMatches<'a>) -> Result<Job<'a>, Usag
         after: matches.get_str("after"),
         stop: stop_of(matches),
         json: is_given(matches, "json"),
+        separator,
     };
     Ok(Job::Solve {
         files,
@@ -146,10 +156,12 @@ fn absent_of<'a>(alloc: Global, matches: &ArgMatches<'a>) -> Result<Job<'a>, Usa
         return Err(wrong(alloc, ABSENT_SIZED_TWICE));
     }
     let settings = input_of(alloc, matches)?;
+    let separator = separator_of(alloc, matches)?;
     let files = AbsentFiles {
         yard: text_of(alloc, matches, "yard")?,
         sizes: matches.get_str("sizes"),
         movins: text_of(alloc, matches, "movins")?,
+        separator,
     };
     Ok(Job::Absent { files, settings })
 }
@@ -163,6 +175,7 @@ fn audit_of<'a>(alloc: Global, matches: &ArgMatches<'a>) -> Result<Job<'a>, Usag
         return Err(wrong(alloc, AUDIT_SIZED_TWICE));
     }
     let settings = input_of(alloc, matches)?;
+    let separator = separator_of(alloc, matches)?;
     let files = AuditFiles {
         yard: text_of(alloc, matches, "yard")?,
         sizes: matches.get_str("sizes"),
@@ -170,6 +183,8 @@ fn audit_of<'a>(alloc: Global, matches: &ArgMatches<'a>) -> Result<Job<'a>, Usag
         report: text_of(alloc, matches, "report")?,
         partial: is_given(matches, "partial"),
         certificates: text_of(alloc, matches, "certificates")?,
+        separator,
+        json: is_json(matches),
     };
     Ok(Job::Audit { files, settings })
 }
@@ -185,6 +200,7 @@ fn leaf_of<'a>(alloc: Global, name: &str, matches: &ArgMatches<'a>) -> Result<Jo
         "replay" => FileCommand::Replay,
         "bound" => FileCommand::Bound {
             chains: is_given(matches, "chains"),
+            json: is_json(matches),
         },
         "rewrite" => FileCommand::Rewrite,
         _ => return Err(wrong(alloc, "error: there is no such command\n")),

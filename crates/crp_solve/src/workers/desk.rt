@@ -56,6 +56,7 @@ fn is_stopped<G: Gate>(gate: &G, timed: bool, stopped: bool, claims: u32) -> boo
 
 /// Claims one expansion by the seat, and answers whether it was granted. Where that is not known yet, since all that is left is lent to
 /// other workers, it waits until they claimed more or their parts ended.
+#[inline(always)]
 fn claim<R: Wait>(rt: &R, common: &Common, seat: &mut Seat) -> bool
     requires { seat.old.of ≡ common.now.of }
     ensures step { seat.old.view.refused ≡ 0 → ClaimsOne seat.old result seat.new }
@@ -118,6 +119,7 @@ impl<'a, R: Wait, G: Gate, K: Opened> Claims for Desk<'a, R, G, K> {
     ghost claims = { λ old granted new. ClaimsExpansion old.of.key.budget old.view granted new.view
         × ((new.of.key.problem ≡ old.of.key.problem) × (new.of.key.budget ≡ old.of.key.budget) × (puts_at new.place ≡ puts_at old.place)) };
 
+    #[inline(always)]
     fn claim(&mut self) -> bool {
         let common = self.common;
         self.stopped = is_stopped(self.outside.gate, common.timed, self.stopped, self.claims);

@@ -1,8 +1,7 @@
-use Rattle.std.proofs.Common.{◌≡◌, ℕ, ◌+◌, ◌-◌, ◌<◌, ◌≤◌, max, false, List, [], length, take, get_or, set, sym, ap, ◌∙◌, subst, arith}
+use Rattle.std.proofs.Common.{◌≡◌, ℕ, suc, ◌+◌, ◌-◌, ◌<◌, ◌≤◌, max, List, [], length, take, get_or, set, sym, ap, ◌∙◌, subst, arith}
 use Rattle.std.specs.Prelude.{IfNone}
 use Rattle.std.proofs.lemmas.Option.{IfSome_then}
-use Rattle.std.proofs.lemmas.List.{length-take-le}
-use Rattle.crp_plan.specs.Rows.{holds}
+use Rattle.std.proofs.lemmas.List.{length-take-le, length-take, get_or-take}
 use Rattle.crp_plan.specs.Bay.{Position}
 use Rattle.crp_plan.proofs.Lists.{times}
 use Rattle.crp_bay.proofs.Reaching.{reached_sound, reached_rows, reached_ordered}
@@ -13,8 +12,9 @@ use Rattle.crp_bounds.proofs.Cutting.{times_take}
 use Rattle.crp_bounds.proofs.Tallying.{ahead_ends}
 use Rattle.crp_bounds.proofs.Scanned.{bay_of, Reads, reads, part_few, held_test}
 use Rattle.crp_bounds.proofs.Remaining.{Remains, Turned, turned, remains_begins, remains_most, remains_absent, stuck_most}
+use Rattle.crp_bounds.proofs.Clear.{IsCutOff, cut_off_begins, cut_off_absent, cut_off_met, clear_test, clear_least, known_part}
 use Rattle.crp_bounds.proofs.scanning.again_reaching.Goals as goal
-use Rattle.crp_bounds.proofs.scanning.again_reaching.Goals.{then-least_of-rank+else-most+else-enough-again+else-again-still, else-least_of-rank}
+use Rattle.crp_bounds.proofs.scanning.again_reaching.Goals.{then-leasts-rank+else-most+else-enough-again+else-again-still, else-leasts-rank}
 
 pub returns-then-blocking-need-clause-short : goal.returns-then-blocking-need-clause-short
 returns-then-blocking-need-clause-short c = let most = stuck_most c.args.position.now.place c.ordered-ordered.ensures.reached in omega (arith, most, c.requires.blocking)
@@ -23,34 +23,36 @@ pub overflow_add-rank-end : goal.overflow_add-rank-end
 overflow_add-rank-end c = omega (arith, c.ordered-ordered.ensures.value, reached_ordered c.args.position.now.place c.ordered-ordered.ensures.reached)
 
 pub loop-rank-init : goal.loop-rank-init
-loop-rank-init c =
-    remains_begins c.args.position.now.place c.begun-most.new.left c.begun-most.result c.next-rank.result c.args.blocking c.ordered-ordered.ensures.reached c.begun-most.ensures.left c.begun-most.ensures.most c.begun-most.ensures.long c.next-rank.ensures.value c.requires.blocking
+loop-rank-init c = record {
+  remains = remains_begins c.args.position.now.place c.begun-most.new.left c.begun-most.result c.next-rank.result c.args.blocking c.ordered-ordered.ensures.reached c.begun-most.ensures.left c.begun-most.ensures.most c.begun-most.ensures.long c.next-rank.ensures.value c.requires.blocking;
+  cut_off = cut_off_begins c.args.position.now.place.ordered c.args.position.now.place.stacks c.next-rank.result c.begun-most.new.left c.begun-most.ensures.left;
+}
 
 pub bounds-left-index : goal.bounds-left-index
 bounds-left-index c = omega (arith, c.row_of-row.ensures.there, (reached_rows c.args.position.now.place c.ordered-ordered.ensures.reached).1)
 
 pub slice_bounds-stack-end : goal.slice_bounds-stack-end
 slice_bounds-stack-end c =
-    let r : Reads c.args.position.now.place c.loop-rank.rank c.row_of-row.result c.stack.result.now c.loop-rank.left = reads c.args.position.now.place c.loop-rank.rank c.row_of-row.result c.stack.result.now c.loop-rank.left c.ordered-ordered.ensures.reached c.row_of-row.ensures.value c.row_of-row.ensures.there c.stack.ensures.value c.loop-rank.invariant.ahead.within in
+    let r : Reads c.args.position.now.place c.loop-rank.rank c.row_of-row.result c.stack.result.now c.loop-rank.left = reads c.args.position.now.place c.loop-rank.rank c.row_of-row.result c.stack.result.now c.loop-rank.left c.ordered-ordered.ensures.reached c.row_of-row.ensures.value c.row_of-row.ensures.there c.stack.ensures.value c.loop-rank.invariant.remains.ahead.within in
     sym (length-take-le (get_or c.loop-rank.left (c.row_of-row.result - 1) 0) c.stack.result.now r.within)
 
 pub returns-then-most-clause-most : goal.returns-then-most-clause-most
 returns-then-most-clause-most c =
     let s : Position = c.args.position.now.place in
-    let all : c.loop-rank.again ≡ stuck_now s = ahead_ends s.ordered s.next s.heights s.stacks c.loop-rank.rank c.loop-rank.left c.loop-rank.most c.loop-rank.again c.loop-rank.invariant.ahead (omega (arith, c.ordered-ordered.ensures.value)) (reached_ordered s c.ordered-ordered.ensures.reached) c.if-most.true in
+    let all : c.loop-rank.again ≡ stuck_now s = ahead_ends s.ordered s.next s.heights s.stacks c.loop-rank.rank c.loop-rank.left c.loop-rank.most c.loop-rank.again c.loop-rank.invariant.remains.ahead (omega (arith, c.ordered-ordered.ensures.value)) (reached_ordered s c.ordered-ordered.ensures.reached) c.if-most.true in
     IfSome_then c.if_reached.result c.if_reached.ensures.value (λ again e. omega (arith, e, all))
 
 pub returns-then-most-clause-all : goal.returns-then-most-clause-all
 returns-then-most-clause-all c =
     let s : Position = c.args.position.now.place in
-    let all : c.loop-rank.again ≡ stuck_now s = ahead_ends s.ordered s.next s.heights s.stacks c.loop-rank.rank c.loop-rank.left c.loop-rank.most c.loop-rank.again c.loop-rank.invariant.ahead (omega (arith, c.ordered-ordered.ensures.value)) (reached_ordered s c.ordered-ordered.ensures.reached) c.if-most.true in
+    let all : c.loop-rank.again ≡ stuck_now s = ahead_ends s.ordered s.next s.heights s.stacks c.loop-rank.rank c.loop-rank.left c.loop-rank.most c.loop-rank.again c.loop-rank.invariant.remains.ahead (omega (arith, c.ordered-ordered.ensures.value)) (reached_ordered s c.ordered-ordered.ensures.reached) c.if-most.true in
     IfSome_then c.if_reached.result c.if_reached.ensures.value (λ again e. λ lt. e ∙ all)
 
 pub returns-then-most-clause-short : goal.returns-then-most-clause-short
 returns-then-most-clause-short c =
     let s : Position = c.args.position.now.place in
     subst (λ n. IfNone c.if_reached.result (n < c.args.need))
-    (ahead_ends s.ordered s.next s.heights s.stacks c.loop-rank.rank c.loop-rank.left c.loop-rank.most c.loop-rank.again c.loop-rank.invariant.ahead (omega (arith, c.ordered-ordered.ensures.value)) (reached_ordered s c.ordered-ordered.ensures.reached) c.if-most.true)
+    (ahead_ends s.ordered s.next s.heights s.stacks c.loop-rank.rank c.loop-rank.left c.loop-rank.most c.loop-rank.again c.loop-rank.invariant.remains.ahead (omega (arith, c.ordered-ordered.ensures.value)) (reached_ordered s c.ordered-ordered.ensures.reached) c.if-most.true)
     c.if_reached.ensures.short
 
 pub cut_at_rank-more-requires-clause-held : goal.cut_at_rank-more-requires-clause-held
@@ -59,10 +61,10 @@ cut_at_rank-more-requires-clause-held c =
     let k : ℕ = c.loop-rank.rank in
     let row : ℕ = c.row_of-row.result in
     let le : k ≤ s.ordered = omega (arith, c.ordered-ordered.ensures.value) in
-    let r : Reads s k row c.stack.result.now c.loop-rank.left = reads s k row c.stack.result.now c.loop-rank.left c.ordered-ordered.ensures.reached c.row_of-row.ensures.value c.row_of-row.ensures.there c.stack.ensures.value c.loop-rank.invariant.ahead.within in
+    let r : Reads s k row c.stack.result.now c.loop-rank.left = reads s k row c.stack.result.now c.loop-rank.left c.ordered-ordered.ensures.reached c.row_of-row.ensures.value c.row_of-row.ensures.there c.stack.ensures.value c.loop-rank.invariant.remains.ahead.within in
     let part : List ℕ = take (get_or c.loop-rank.left (row - 1) 0) c.stack.result.now in
-    let least_is : least_ordered s.ordered part ≡ k = ap (λ o. least_ordered o part) (sym c.ordered-ordered.ensures.value) ∙ sym c.least_of.ensures ∙ c.if-least_of-rank.true in
-    (held_test s k row c.stack.result.now c.loop-rank.left c.loop-rank.most c.loop-rank.again c.ordered-ordered.ensures.reached r c.loop-rank.invariant.ahead le).0 least_is
+    let least_is : least_ordered s.ordered part ≡ k = clear_least s k row c.stack.result.now c.loop-rank.left c.args.leasts.now c.loop-rank.most c.loop-rank.again c.ordered-ordered.ensures.reached c.requires.known r c.loop-rank.invariant.remains.ahead c.loop-rank.invariant.cut_off (omega (arith, c.next-rank.ensures.value)) le c.if-leasts-rank.true in
+    (held_test s k row c.stack.result.now c.loop-rank.left c.loop-rank.most c.loop-rank.again c.ordered-ordered.ensures.reached r c.loop-rank.invariant.remains.ahead le).0 least_is
 
 pub cut_at_rank-more-requires-clause-once : goal.cut_at_rank-more-requires-clause-once
 cut_at_rank-more-requires-clause-once c =
@@ -77,26 +79,26 @@ returns-then-enough-again-clause-most c =
     let k : ℕ = c.loop-rank.rank in
     let row : ℕ = c.row_of-row.result in
     let le : k ≤ s.ordered = omega (arith, c.ordered-ordered.ensures.value) in
-    let r : Reads s k row c.stack.result.now c.loop-rank.left = reads s k row c.stack.result.now c.loop-rank.left c.ordered-ordered.ensures.reached c.row_of-row.ensures.value c.row_of-row.ensures.there c.stack.ensures.value c.loop-rank.invariant.ahead.within in
+    let r : Reads s k row c.stack.result.now c.loop-rank.left = reads s k row c.stack.result.now c.loop-rank.left c.ordered-ordered.ensures.reached c.row_of-row.ensures.value c.row_of-row.ensures.there c.stack.ensures.value c.loop-rank.invariant.remains.ahead.within in
     let part : List ℕ = take (get_or c.loop-rank.left (row - 1) 0) c.stack.result.now in
-    let least_is : least_ordered s.ordered part ≡ k = ap (λ o. least_ordered o part) (sym c.ordered-ordered.ensures.value) ∙ sym c.least_of.ensures ∙ c.if-least_of-rank.true in
+    let least_is : least_ordered s.ordered part ≡ k = clear_least s k row c.stack.result.now c.loop-rank.left c.args.leasts.now c.loop-rank.most c.loop-rank.again c.ordered-ordered.ensures.reached c.requires.known r c.loop-rank.invariant.remains.ahead c.loop-rank.invariant.cut_off (omega (arith, c.next-rank.ensures.value)) le c.if-leasts-rank.true in
     let cut = c.cut_at_rank-more in
     let t : Turned s k row c.stack.result.now c.loop-rank.left c.loop-rank.most c.loop-rank.again c.loop-rank.still cut.result.kept cut.result.more =
-    turned s k row c.stack.result.now c.loop-rank.left c.loop-rank.most c.loop-rank.again c.loop-rank.still cut.result.kept cut.result.more c.loop-rank.invariant c.ordered-ordered.ensures.reached le r c.stack.ensures.ranks least_is cut.ensures.below cut.ensures.lower cut.ensures.more cut.ensures.few in
+    turned s k row c.stack.result.now c.loop-rank.left c.loop-rank.most c.loop-rank.again c.loop-rank.still cut.result.kept cut.result.more c.loop-rank.invariant.remains c.ordered-ordered.ensures.reached le r c.stack.ensures.ranks least_is cut.ensures.below cut.ensures.lower cut.ensures.more cut.ensures.few in
     t.counted_most
 
-pub overflow_sub-still-then-least_of-rank-2 : goal.overflow_sub-still-then-least_of-rank-2
-overflow_sub-still-then-least_of-rank-2 c =
+pub overflow_sub-still-then-leasts-rank-2 : goal.overflow_sub-still-then-leasts-rank-2
+overflow_sub-still-then-leasts-rank-2 c =
     let s : Position = c.args.position.now.place in
     let k : ℕ = c.loop-rank.rank in
     let row : ℕ = c.row_of-row.result in
     let le : k ≤ s.ordered = omega (arith, c.ordered-ordered.ensures.value) in
-    let r : Reads s k row c.stack.result.now c.loop-rank.left = reads s k row c.stack.result.now c.loop-rank.left c.ordered-ordered.ensures.reached c.row_of-row.ensures.value c.row_of-row.ensures.there c.stack.ensures.value c.loop-rank.invariant.ahead.within in
+    let r : Reads s k row c.stack.result.now c.loop-rank.left = reads s k row c.stack.result.now c.loop-rank.left c.ordered-ordered.ensures.reached c.row_of-row.ensures.value c.row_of-row.ensures.there c.stack.ensures.value c.loop-rank.invariant.remains.ahead.within in
     let part : List ℕ = take (get_or c.loop-rank.left (row - 1) 0) c.stack.result.now in
-    let least_is : least_ordered s.ordered part ≡ k = ap (λ o. least_ordered o part) (sym c.ordered-ordered.ensures.value) ∙ sym c.least_of.ensures ∙ c.if-least_of-rank.true in
+    let least_is : least_ordered s.ordered part ≡ k = clear_least s k row c.stack.result.now c.loop-rank.left c.args.leasts.now c.loop-rank.most c.loop-rank.again c.ordered-ordered.ensures.reached c.requires.known r c.loop-rank.invariant.remains.ahead c.loop-rank.invariant.cut_off (omega (arith, c.next-rank.ensures.value)) le c.if-leasts-rank.true in
     let cut = c.cut_at_rank-more in
     let t : Turned s k row c.stack.result.now c.loop-rank.left c.loop-rank.most c.loop-rank.again c.loop-rank.still cut.result.kept cut.result.more =
-    turned s k row c.stack.result.now c.loop-rank.left c.loop-rank.most c.loop-rank.again c.loop-rank.still cut.result.kept cut.result.more c.loop-rank.invariant c.ordered-ordered.ensures.reached le r c.stack.ensures.ranks least_is cut.ensures.below cut.ensures.lower cut.ensures.more cut.ensures.few in
+    turned s k row c.stack.result.now c.loop-rank.left c.loop-rank.most c.loop-rank.again c.loop-rank.still cut.result.kept cut.result.more c.loop-rank.invariant.remains c.ordered-ordered.ensures.reached le r c.stack.ensures.ranks least_is cut.ensures.below cut.ensures.lower cut.ensures.more cut.ensures.few in
     t.within
 
 pub returns-then-again-still-clause-short : goal.returns-then-again-still-clause-short
@@ -105,45 +107,62 @@ returns-then-again-still-clause-short c =
     let k : ℕ = c.loop-rank.rank in
     let row : ℕ = c.row_of-row.result in
     let le : k ≤ s.ordered = omega (arith, c.ordered-ordered.ensures.value) in
-    let r : Reads s k row c.stack.result.now c.loop-rank.left = reads s k row c.stack.result.now c.loop-rank.left c.ordered-ordered.ensures.reached c.row_of-row.ensures.value c.row_of-row.ensures.there c.stack.ensures.value c.loop-rank.invariant.ahead.within in
+    let r : Reads s k row c.stack.result.now c.loop-rank.left = reads s k row c.stack.result.now c.loop-rank.left c.ordered-ordered.ensures.reached c.row_of-row.ensures.value c.row_of-row.ensures.there c.stack.ensures.value c.loop-rank.invariant.remains.ahead.within in
     let part : List ℕ = take (get_or c.loop-rank.left (row - 1) 0) c.stack.result.now in
-    let least_is : least_ordered s.ordered part ≡ k = ap (λ o. least_ordered o part) (sym c.ordered-ordered.ensures.value) ∙ sym c.least_of.ensures ∙ c.if-least_of-rank.true in
+    let least_is : least_ordered s.ordered part ≡ k = clear_least s k row c.stack.result.now c.loop-rank.left c.args.leasts.now c.loop-rank.most c.loop-rank.again c.ordered-ordered.ensures.reached c.requires.known r c.loop-rank.invariant.remains.ahead c.loop-rank.invariant.cut_off (omega (arith, c.next-rank.ensures.value)) le c.if-leasts-rank.true in
     let cut = c.cut_at_rank-more in
     let t : Turned s k row c.stack.result.now c.loop-rank.left c.loop-rank.most c.loop-rank.again c.loop-rank.still cut.result.kept cut.result.more =
-    turned s k row c.stack.result.now c.loop-rank.left c.loop-rank.most c.loop-rank.again c.loop-rank.still cut.result.kept cut.result.more c.loop-rank.invariant c.ordered-ordered.ensures.reached le r c.stack.ensures.ranks least_is cut.ensures.below cut.ensures.lower cut.ensures.more cut.ensures.few in
+    turned s k row c.stack.result.now c.loop-rank.left c.loop-rank.most c.loop-rank.again c.loop-rank.still cut.result.kept cut.result.more c.loop-rank.invariant.remains c.ordered-ordered.ensures.reached le r c.stack.ensures.ranks least_is cut.ensures.below cut.ensures.lower cut.ensures.more cut.ensures.few in
     omega (arith, remains_most s.ordered s.next s.heights s.stacks (k + 1) (set c.loop-rank.left (row - 1) cut.result.kept) (max c.loop-rank.most (least_ordered s.ordered (take cut.result.kept part))) (c.loop-rank.again + cut.result.more) (c.loop-rank.still - (length part - 1 - cut.result.kept)) t.remains (bay_of s c.ordered-ordered.ensures.reached) (omega arith), c.if-again-still.true)
 
-pub least_of-requires-then-least_of-rank-clause-ranks : goal.least_of-requires-then-least_of-rank-clause-ranks
-least_of-requires-then-least_of-rank-clause-ranks c =
+pub least_of-requires-clause-ranks : goal.least_of-requires-clause-ranks
+least_of-requires-clause-ranks c =
     part_few c.cut_at_rank-more.result.kept (take (get_or c.loop-rank.left (c.row_of-row.result - 1) 0) c.stack.result.now) (part_few (get_or c.loop-rank.left (c.row_of-row.result - 1) 0) c.stack.result.now c.stack.ensures.ranks)
+
+pub least_of-requires-clause-known : goal.least_of-requires-clause-known
+least_of-requires-clause-known c =
+    let s : Position = c.args.position.now.place in
+    let known : (i : ℕ) → i < length c.stack.result.now → get_or c.args.leasts.now (get_or c.stack.result.now i 0) 0 ≡ least_ordered c.ordered-ordered.result (take (suc i) c.stack.result.now) = λ i lt. c.requires.known.known (c.row_of-row.result - 1) i c.stack.result.now c.stack.ensures.value lt ∙ ap (λ o. least_ordered o (take (suc i) c.stack.result.now)) (sym c.ordered-ordered.ensures.value) in
+    known_part c.args.leasts.now c.ordered-ordered.result c.cut_at_rank-more.result.kept (take (get_or c.loop-rank.left (c.row_of-row.result - 1) 0) c.stack.result.now)
+    (known_part c.args.leasts.now c.ordered-ordered.result (get_or c.loop-rank.left (c.row_of-row.result - 1) 0) c.stack.result.now known)
 
 pub loop-rank-preserved : goal.loop-rank-preserved
 loop-rank-preserved c =
     let s : Position = c.args.position.now.place in
     let k : ℕ = c.loop-rank.rank in
-    let row : ℕ = c.row_of-row.result in
     let le : k ≤ s.ordered = omega (arith, c.ordered-ordered.ensures.value) in
-    let r : Reads s k row c.stack.result.now c.loop-rank.left = reads s k row c.stack.result.now c.loop-rank.left c.ordered-ordered.ensures.reached c.row_of-row.ensures.value c.row_of-row.ensures.there c.stack.ensures.value c.loop-rank.invariant.ahead.within in
-    let part : List ℕ = take (get_or c.loop-rank.left (row - 1) 0) c.stack.result.now in
+    let inv = c.loop-rank.invariant in
     let goes : List ℕ → ℕ → ℕ → ℕ → Type 0 = λ left most again still. Remains s.ordered s.next s.heights s.stacks (k + 1) left most again still in
-    elim c.if-least_of-rank.branch [
-      | then-least_of-rank+else-most+else-enough-again+else-again-still w ↦
-          let least_is : least_ordered s.ordered part ≡ k = ap (λ o. least_ordered o part) (sym c.ordered-ordered.ensures.value) ∙ sym c.least_of.ensures ∙ w.if-least_of-rank.true in
+    elim c.if-leasts-rank.branch [
+      | then-leasts-rank+else-most+else-enough-again+else-again-still w ↦
+          let row : ℕ = w.row_of-row.result in
+          let r : Reads s k row w.stack.result.now c.loop-rank.left = reads s k row w.stack.result.now c.loop-rank.left c.ordered-ordered.ensures.reached w.row_of-row.ensures.value w.row_of-row.ensures.there w.stack.ensures.value inv.remains.ahead.within in
+          let part : List ℕ = take (get_or c.loop-rank.left (row - 1) 0) w.stack.result.now in
+          let least_is : least_ordered s.ordered part ≡ k = clear_least s k row w.stack.result.now c.loop-rank.left c.args.leasts.now c.loop-rank.most c.loop-rank.again c.ordered-ordered.ensures.reached c.requires.known r inv.remains.ahead inv.cut_off (omega (arith, c.next-rank.ensures.value)) le w.if-leasts-rank.true in
           let cut = w.cut_at_rank-more in
-          let t : Turned s k row c.stack.result.now c.loop-rank.left c.loop-rank.most c.loop-rank.again c.loop-rank.still cut.result.kept cut.result.more =
-          turned s k row c.stack.result.now c.loop-rank.left c.loop-rank.most c.loop-rank.again c.loop-rank.still cut.result.kept cut.result.more c.loop-rank.invariant c.ordered-ordered.ensures.reached le r c.stack.ensures.ranks least_is cut.ensures.below cut.ensures.lower cut.ensures.more cut.ensures.few in
-          let least : w.least_of-then-least_of-rank.result ≡ least_ordered s.ordered (take cut.result.kept part) = w.least_of-then-least_of-rank.ensures ∙ ap (λ o. least_ordered o (take cut.result.kept part)) c.ordered-ordered.ensures.value in
-          subst (λ l. goes l c.if-least_of-rank.most c.if-least_of-rank.again c.if-least_of-rank.still) (sym w.left-is)
-          (subst (λ o. goes (set c.loop-rank.left (row - 1) cut.result.kept) o c.if-least_of-rank.again c.if-least_of-rank.still) (sym (w.most-is ∙ w.max-most.ensures ∙ ap (max c.loop-rank.most) least))
-          (subst (λ n. goes (set c.loop-rank.left (row - 1) cut.result.kept) (max c.loop-rank.most (least_ordered s.ordered (take cut.result.kept part))) n c.if-least_of-rank.still) (sym w.again-is)
-          (subst (λ n. goes (set c.loop-rank.left (row - 1) cut.result.kept) (max c.loop-rank.most (least_ordered s.ordered (take cut.result.kept part))) (c.loop-rank.again + cut.result.more) n) (sym w.still-is) t.remains)))
-      | else-least_of-rank w ↦
-          let free : holds k part ≡ false = (held_test s k row c.stack.result.now c.loop-rank.left c.loop-rank.most c.loop-rank.again c.ordered-ordered.ensures.reached r c.loop-rank.invariant.ahead le).1 (λ e. w.if-least_of-rank.false (c.least_of.ensures ∙ ap (λ o. least_ordered o part) c.ordered-ordered.ensures.value ∙ e)) in
+          let t : Turned s k row w.stack.result.now c.loop-rank.left c.loop-rank.most c.loop-rank.again c.loop-rank.still cut.result.kept cut.result.more =
+          turned s k row w.stack.result.now c.loop-rank.left c.loop-rank.most c.loop-rank.again c.loop-rank.still cut.result.kept cut.result.more inv.remains c.ordered-ordered.ensures.reached le r w.stack.ensures.ranks least_is cut.ensures.below cut.ensures.lower cut.ensures.more cut.ensures.few in
+          let least : w.least_of.result ≡ least_ordered s.ordered (take cut.result.kept part) = w.least_of.ensures ∙ ap (λ o. least_ordered o (take cut.result.kept part)) c.ordered-ordered.ensures.value in
+          let found : get_or (get_or s.stacks (row - 1) []) cut.result.kept 0 ≡ k = ap (λ xs. get_or xs cut.result.kept 0) r.stack_is ∙ sym (get_or-take (get_or c.loop-rank.left (row - 1) 0) w.stack.result.now cut.result.kept 0 (let low = cut.ensures.lower in omega (arith, length-take (get_or c.loop-rank.left (row - 1) 0) w.stack.result.now))) ∙ cut.ensures.found in
+          record {
+            remains = subst (λ l. goes l c.if-leasts-rank.most c.if-leasts-rank.again c.if-leasts-rank.still) (sym w.left-is)
+                (subst (λ o. goes (set c.loop-rank.left (row - 1) cut.result.kept) o c.if-leasts-rank.again c.if-leasts-rank.still) (sym (w.most-is ∙ w.max-most.ensures ∙ ap (max c.loop-rank.most) least))
+                (subst (λ n. goes (set c.loop-rank.left (row - 1) cut.result.kept) (max c.loop-rank.most (least_ordered s.ordered (take cut.result.kept part))) n c.if-leasts-rank.still) (sym w.again-is)
+                (subst (λ n. goes (set c.loop-rank.left (row - 1) cut.result.kept) (max c.loop-rank.most (least_ordered s.ordered (take cut.result.kept part))) (c.loop-rank.again + cut.result.more) n) (sym w.still-is) t.remains)));
+            cut_off = subst (IsCutOff s.ordered s.stacks (k + 1)) (sym w.left-is) (cut_off_met s.ordered s.stacks k c.loop-rank.left (row - 1) cut.result.kept le (let long = inv.remains.ahead.left_long in let rows = (reached_rows s c.ordered-ordered.ensures.reached).1 in let there = r.there in omega arith) found inv.cut_off);
+          }
+      | else-leasts-rank w ↦
           let sound = reached_sound s c.ordered-ordered.ensures.reached in
-          subst (λ l. goes l c.if-least_of-rank.most c.if-least_of-rank.again c.if-least_of-rank.still) (sym w.left-is)
-          (subst (λ o. goes c.loop-rank.left o c.if-least_of-rank.again c.if-least_of-rank.still) (sym w.most-is)
-          (subst (λ n. goes c.loop-rank.left c.loop-rank.most n c.if-least_of-rank.still) (sym w.again-is)
-          (subst (λ n. goes c.loop-rank.left c.loop-rank.most c.loop-rank.again n) (sym w.still-is)
-          (remains_absent s.ordered s.next s.heights s.stacks k c.loop-rank.left c.loop-rank.most c.loop-rank.again c.loop-rank.still c.loop-rank.invariant (sound.once k) le
-          (subst (λ j. holds k (take (get_or c.loop-rank.left j 0) (get_or s.stacks j [])) ≡ false) r.index (ap (λ l. holds k (take (get_or c.loop-rank.left (row - 1) 0) l)) r.stack_is ∙ free))))))
+          let free = (clear_test s k c.loop-rank.left c.args.leasts.now c.loop-rank.most c.loop-rank.again c.ordered-ordered.ensures.reached c.requires.known inv.remains.ahead inv.cut_off (omega (arith, c.next-rank.ensures.value)) le).1 w.if-leasts-rank.false in
+          record {
+            remains = subst (λ l. goes l c.if-leasts-rank.most c.if-leasts-rank.again c.if-leasts-rank.still) (sym w.left-is)
+                (subst (λ o. goes c.loop-rank.left o c.if-leasts-rank.again c.if-leasts-rank.still) (sym w.most-is)
+                (subst (λ n. goes c.loop-rank.left c.loop-rank.most n c.if-leasts-rank.still) (sym w.again-is)
+                (subst (λ n. goes c.loop-rank.left c.loop-rank.most c.loop-rank.again n) (sym w.still-is)
+                (remains_absent s.ordered s.next s.heights s.stacks k c.loop-rank.left c.loop-rank.most c.loop-rank.again c.loop-rank.still inv.remains (sound.once k) le free))));
+            cut_off = subst (IsCutOff s.ordered s.stacks (k + 1)) (sym w.left-is) (cut_off_absent s.ordered s.stacks k c.loop-rank.left inv.cut_off);
+          }
     ]
+
+pub bounds-leasts-rank : goal.bounds-leasts-rank
+bounds-leasts-rank c = omega (arith, c.ordered-ordered.ensures.value, reached_ordered c.args.position.now.place c.ordered-ordered.ensures.reached)

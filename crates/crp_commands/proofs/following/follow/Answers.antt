@@ -117,7 +117,7 @@ returns-in_err-write_texts-clause-ended g c =
         record { input = c.in_ok-input.ensures.read; report_given = given },
         inr (
           _,
-          texts_of_call c.in_ok-input.input.ship c.args.settings.now.loaded c.args.settings.now.summary c.in_ok-input.input.yard c.deref.result.now made.followed.numbers (map bay_followed made.followed.bays.items)
+          texts_of_call c.in_ok-input.input.ship c.args.settings.now.loaded c.args.settings.now.summary c.args.settings.now.separator c.in_ok-input.input.yard c.deref.result.now made.followed.numbers (map bay_followed made.followed.bays.items)
               _ c.args.settings.now.list left c.in_ok-made.ensures.followed c.in_ok-made.ensures.faultless refl c.in_ok-made.ensures.list c.in_ok-made.ensures.table,
           c.in_err-write_texts.ensures.ended,
         ),
@@ -160,7 +160,7 @@ returns-clause-ended g c =
         record { input = c.in_ok-input.ensures.read; report_given = given },
         (
           _,
-          texts_of_call c.in_ok-input.input.ship c.args.settings.now.loaded c.args.settings.now.summary c.in_ok-input.input.yard c.deref.result.now made.followed.numbers (map bay_followed made.followed.bays.items) _
+          texts_of_call c.in_ok-input.input.ship c.args.settings.now.loaded c.args.settings.now.summary c.args.settings.now.separator c.in_ok-input.input.yard c.deref.result.now made.followed.numbers (map bay_followed made.followed.bays.items) _
               c.args.settings.now.list left c.in_ok-made.ensures.followed c.in_ok-made.ensures.faultless refl c.in_ok-made.ensures.list c.in_ok-made.ensures.table,
           c.in_ok-write_texts.ensures.ended,
         ),

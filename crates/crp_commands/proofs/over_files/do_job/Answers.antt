@@ -41,6 +41,12 @@ returns-in-Follow-clause-done g c = rw c.in-Follow.is c.follow_files.ensures.end
 pub returns-in-Follow-clause-noted : goal.returns-in-Follow-clause-noted
 returns-in-Follow-clause-noted g c = rw c.in-Follow.is c.follow_files.ensures.noted
 
+pub returns-in-Compare-clause-done : goal.returns-in-Compare-clause-done
+returns-in-Compare-clause-done g c = rw c.in-Compare.is c.compare_files.ensures.ended
+
+pub returns-in-Compare-clause-noted : goal.returns-in-Compare-clause-noted
+returns-in-Compare-clause-noted g c = rw c.in-Compare.is c.compare_files.ensures.noted
+
 pub returns-in-Solve-clause-done : goal.returns-in-Solve-clause-done
 returns-in-Solve-clause-done g c =
     let seen : JobSeen = record {

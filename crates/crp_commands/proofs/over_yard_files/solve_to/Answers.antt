@@ -2,6 +2,7 @@ use Rattle.std.proofs.Common.{◌∙◌, ap, refl}
 use Rattle.crp_report.specs.Runs.{RunSeen, sink_seen, source_seen}
 use Rattle.crp_files.specs.Known.{KnownFiles}
 use Rattle.crp_commands.proofs.Finished.{more_from, written, written_from}
+use Rattle.crp_commands.proofs.OpenedLists.{list_bytes, list_closed, list_failures, list_opened}
 use Rattle.crp_commands.proofs.Replayed.{keeps_same}
 use Rattle.crp_commands.proofs.Solved.{Counts, ended_job, ended_over, yard_after_refused}
 use Rattle.crp_commands.proofs.TwoFiles.{Times, there_from}
@@ -21,7 +22,7 @@ pub returns-clause-ended : goal.returns-clause-ended
 returns-clause-ended g c =
     let names = c.args.asked.now.names.now in
     let seen : RunSeen = record {
-      yard = source_seen g.F.Input.Source.remaining g.F.Input.Source.failures c.in-Ok.yard c.run_watched-answer.new.devices.yard;
+      yard = source_seen (list_bytes g.F.Input.Source.remaining) (list_failures g.F.Input.Source.failures) c.with_commas.result c.run_watched-answer.new.devices.yard;
       movins = source_seen g.F.Input.Source.remaining g.F.Input.Source.failures c.in-Ok-open.movins c.run_watched-answer.new.devices.movins;
       report = sink_seen g.W.Sink.contents g.W.Sink.failures c.args.out.now c.run_watched-answer.new.out;
       certificates = record {
@@ -59,7 +60,7 @@ returns-clause-ended g c =
     (ended_over names c.args.asked.now.settings.now g.C.Named.name g.A.Named.name times counts seen c.run_watched-answer.result c.finish-certified.result c.finish-left.result
     c.unless_unfinished-answer.result c.unless_unfinished.result c.requires.certificates c.requires.yard_after
     (record {
-      yard = record { bytes = c.in-Ok.ensures.bytes; new = c.in-Ok.ensures.new };
+      yard = list_opened _ _ _ seen.yard _ _ c.with_commas.ensures.bytes c.with_commas.ensures.count c.in-Ok.ensures.bytes c.in-Ok.ensures.new;
       movins = record {
         bytes = c.in-Ok-open.ensures.bytes ∙ ap (λ (k : KnownFiles). k.given names.movins.now) c.in-Ok.ensures.kept;
         new = c.in-Ok-open.ensures.new;
@@ -78,7 +79,7 @@ returns-clause-ended g c =
             c.finish-left.ensures.count;
         ended = c.close-2.ensures.kept ∙ c.close.ensures.kept;
       };
-      yard_closed = c.close.ensures.count;
+      yard_closed = list_closed _ _ _ _ c.into_file.ensures.count c.close.ensures.count;
       movins_closed = c.close-2.ensures.count;
     }) c.run_watched-answer.ensures.written
     (record {

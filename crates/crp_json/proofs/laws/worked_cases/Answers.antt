@@ -24,3 +24,23 @@ returns-clause-bounded c = refl
 pub returns-clause-last : goal.returns-clause-last
 unfolding digits chars is_utf8 encode_with json_on_literals
 returns-clause-last c = refl
+
+pub returns-clause-shown_bounds : goal.returns-clause-shown_bounds
+unfolding digits chars is_utf8 encode_with json_on_literals
+returns-clause-shown_bounds c = refl
+
+pub returns-clause-shown_first : goal.returns-clause-shown_first
+unfolding digits chars is_utf8 encode_with json_on_literals
+returns-clause-shown_first c = refl
+
+pub returns-clause-audited : goal.returns-clause-audited
+unfolding digits chars is_utf8 encode_with json_on_literals
+returns-clause-audited c = refl
+
+pub returns-clause-bounds : goal.returns-clause-bounds
+unfolding digits chars is_utf8 encode_with json_on_literals
+returns-clause-bounds c = refl
+
+pub returns-clause-ranks : goal.returns-clause-ranks
+unfolding digits chars is_utf8 encode_with json_on_literals
+returns-clause-ranks c = refl

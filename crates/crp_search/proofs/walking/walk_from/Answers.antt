@@ -4,16 +4,17 @@ use Rattle.std.proofs.lemmas.List.{nil_from_length}
 use Rattle.std.proofs.lemmas.Result.{err_from_is_err_and}
 use Rattle.crp_plan.specs.Bay.{IsAt, cap}
 use Rattle.crp_plan.proofs.Steps.{short_path}
-use Rattle.crp_bay.specs.Positions.{targets, child}
+use Rattle.crp_bay.specs.Positions.{child}
+use Rattle.crp_bounds.specs.Moving.{IsMover}
 use Rattle.crp_row.specs.Symbol as symbol
 use Rattle.crp_row.specs.Rows.{symbol_of}
 use Rattle.crp_tree.specs.Symbols.{leaf, leaf_symbols}
 use Rattle.crp_tree.specs.Trees.{nodes, IsGivenAway, least_value}
 use Rattle.crp_tree.proofs.Followed.{pop_back, back_again}
-use Rattle.crp_search.specs.declared.frames.Frame.{Frame}
+use Rattle.crp_search.specs.Frames.{Branching as Frame, TakesTurn}
 use Rattle.crp_search.specs.Limits.{dealt}
 use Rattle.crp_search.specs.Searched.{AreFirstNodes}
-use Rattle.crp_search.specs.Walked.{met_at, closing, TakesTurn}
+use Rattle.crp_search.specs.Walked.{met_at, closing}
 use Rattle.crp_search.proofs.Closing.{floor_branch, floor_more}
 use Rattle.crp_search.proofs.UnderWay.{standing, stands_at, sets_out, legal_turn, turn_moves, turn_leads, still_short, stays, goes_down, goes_up, ends, ends_as, first_nodes, none_yet, leaf_tree, carried, reverse_push, one_less_left}
 use Rattle.crp_search.proofs.Owing.{left, owed, owes_less, owes_below, owes_above}
@@ -58,9 +59,8 @@ returns-in_err-push-clause-end g c =
 
 pub loop-row-init : goal.loop-row-init
 loop-row-init g c =
-    let rows : c.at-frame.result.rows.items ≡ targets c.args.place.now.place = c.at-frame.ensures.rows in
-    let list_is : c.push_reserved.new.self.symbols ≡ symbol.Branch (length c.at-frame.result.rows.items) ∷ [] = c.push_reserved.ensures ∙ ap (λ l. l ++ symbol_of c.kind.result [] ∷ []) (c.make_room.ensures.symbols ∙ c.new-list.ensures) ∙ ap (λ k. symbol_of k [] ∷ []) c.kind.ensures in
-    let begun = sets_out c.args.problem.now (standing c.args.path.now.items c.args.place.now) c.at-frame.result c.as_slice.result.now (g.S.Seek.text c.close.new.seek) _ c.requires.path c.as_slice.ensures.value rows c.at-frame.ensures.done c.at-frame.ensures.mover refl in
+    let list_is : c.push_reserved.new.self.symbols ≡ symbol.Branch c.at-frame.result.count ∷ [] = c.push_reserved.ensures ∙ ap (λ l. l ++ symbol_of c.kind.result [] ∷ []) (c.make_room.ensures.symbols ∙ c.new-list.ensures) ∙ ap (λ k. symbol_of k [] ∷ []) c.kind.ensures in
+    let begun = sets_out c.args.problem.now (standing c.args.path.now.items c.args.place.now) c.at-frame.result c.as_slice.result.now (g.S.Seek.text c.close.new.seek) _ c.requires.path c.as_slice.ensures.value c.at-frame.ensures.rows c.at-frame.ensures.mover c.at-frame.ensures.count in
     let closes = rw c.in_default.is at c.in_ok-first.ensures.closes in
     let branched = closes.met c.args.split (omega arith) in
     record {
@@ -143,7 +143,7 @@ walk_child-requires-clause-path g c =
     (turn_leads c.loop-row.invariant.under_way c.in-Some-turn.ensures.turn c.loop-row.invariant.is_problem)
 
 pub walk_child-requires-clause-mover : goal.walk_child-requires-clause-mover
-walk_child-requires-clause-mover g c = turn_moves c.loop-row.invariant.under_way c.in-Some-turn.ensures.turn
+walk_child-requires-clause-mover g c = subst (λ m. IsMover m c.loop-row.place.place) (sym c.mover.ensures) (turn_moves c.loop-row.invariant.under_way c.in-Some-turn.ensures.turn)
 
 pub walk_child-requires-clause-row : goal.walk_child-requires-clause-row
 walk_child-requires-clause-row g c = legal_turn c.loop-row.invariant.under_way c.in-Some-turn.ensures.turn
@@ -171,9 +171,8 @@ loop-row-preserved-in_default-found g c =
     let down = rw c.in_default-found.is at c.in_ok-found.ensures.down in
     let closes = rw c.in_default-found.is at c.in_ok-found.ensures.closes in
     let branched = closes.met c.args.split (omega arith) in
-    let rows : c.at-below.result.rows.items ≡ targets c.walk_child.new.place.place = c.at-below.ensures.rows in
-    let list_is : c.push_reserved-in_default-found.new.self.symbols ≡ c.loop-row.list.symbols ++ symbol.Branch (length c.at-below.result.rows.items) ∷ [] = c.push_reserved-in_default-found.ensures ∙ ap (λ l. l ++ symbol_of c.kind-in_default-found.result [] ∷ []) c.make_room-in-loop-row.ensures.symbols ∙ ap (λ k. c.loop-row.list.symbols ++ symbol_of k [] ∷ []) c.kind-in_default-found.ensures in
-    let gone = goes_down c.loop-row.invariant.under_way c.in-Some-turn.ensures.turn (standing c.push-in-loop-row.new.self.items c.walk_child.new.place) c.at-below.result path (g.S.Seek.text c.walk_child.new.seek) _ c.loop-row.invariant.is_problem c.as_slice-in-loop-row.ensures.value c.push-in-loop-row.ensures.items down rows c.at-below.ensures.done c.at-below.ensures.mover refl in
+    let list_is : c.push_reserved-in_default-found.new.self.symbols ≡ c.loop-row.list.symbols ++ symbol.Branch c.at-below.result.count ∷ [] = c.push_reserved-in_default-found.ensures ∙ ap (λ l. l ++ symbol_of c.kind-in_default-found.result [] ∷ []) c.make_room-in-loop-row.ensures.symbols ∙ ap (λ k. c.loop-row.list.symbols ++ symbol_of k [] ∷ []) c.kind-in_default-found.ensures in
+    let gone = goes_down c.loop-row.invariant.under_way c.in-Some-turn.ensures.turn (standing c.push-in-loop-row.new.self.items c.walk_child.new.place) c.at-below.result path (g.S.Seek.text c.walk_child.new.seek) _ c.loop-row.invariant.is_problem c.as_slice-in-loop-row.ensures.value c.push-in-loop-row.ensures.items down c.at-below.ensures.rows c.at-below.ensures.mover c.at-below.ensures.count in
     record {
       is_problem = c.loop-row.invariant.is_problem;
       same = (c.walk_child.ensures.same.0 ∙ c.loop-row.invariant.same.0, c.walk_child.ensures.same.1 ∙ c.loop-row.invariant.same.1);
@@ -188,7 +187,7 @@ pub loop-row-smaller : goal.loop-row-smaller
 loop-row-smaller g c =
     let turn : TakesTurn c.loop-row.frame c.turn.new.self c.in-Some-turn.row = c.in-Some-turn.ensures.turn in
     let popped : c.pop-row-in-loop-row.new.self.items ≡ c.loop-row.path.items = back_again c.pop-row-in-loop-row.new.self.items c.push-in-loop-row.new.self.items c.loop-row.path.items _ c.in-Some-turn.row refl c.push-in-loop-row.ensures.items c.pop-row-in-loop-row.ensures.rest in
-    rw (popped, c.make_room-in-loop-row-2.ensures.items) (owes_less (length c.loop-row.path.items) c.loop-row.frame c.turn.new.self (reverse c.loop-row.above.items) (omega arith) (one_less_left turn))
+    rw (popped, c.make_room-in-loop-row-2.ensures.items) (owes_less (length c.loop-row.path.items) c.loop-row.frame c.turn.new.self (reverse c.loop-row.above.items) (let e = one_less_left turn in omega (arith, e)) (one_less_left turn))
 
 pub loop-row-preserved : goal.loop-row-preserved
 loop-row-preserved g c =

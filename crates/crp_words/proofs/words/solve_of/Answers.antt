@@ -4,7 +4,7 @@ use Rattle.std.proofs.lemmas.Result.{err_from_is_err_and}
 use Rattle.clap.specs.Words.{found_of, rows_of}
 use Rattle.clap.proofs.WalkLemmas.{first_value-rows}
 use Rattle.crp_words.specs.Words.{IsSizedTwice}
-use Rattle.crp_words.proofs.SolveLacking.{no_solve, no_yard, no_movins, solve_sized_twice, solve_named_twice}
+use Rattle.crp_words.proofs.SolveLacking.{no_solve, no_yard, no_movins, no_solve_separator, solve_sized_twice, solve_named_twice}
 use Rattle.crp_words.proofs.words.solve_of.Goals as goal
 
 pub returns-then-is_sized_twice-clause-err : goal.returns-then-is_sized_twice-clause-err
@@ -30,6 +30,11 @@ returns-in_err-movins-clause-err c =
     let p = err_from_is_err_and c.from_residual-in_err-movins.result c.from_residual-in_err-movins.ensures.1 in
     rw (p.1, p.2) (no_movins (rows_of (found_of c.args.matches.now)) c.in_ok-settings.settings c.in_err-movins.field-0.0 c.in_ok-settings.ensures.ok c.in_err-movins.ensures.err)
 
+pub returns-in_err-separator-clause-err : goal.returns-in_err-separator-clause-err
+returns-in_err-separator-clause-err c =
+    let p = err_from_is_err_and c.from_residual-in_err-separator.result c.from_residual-in_err-separator.ensures.1 in
+    rw (p.1, p.2) (no_solve_separator (rows_of (found_of c.args.matches.now)) c.in_ok-settings.settings c.in_err-separator.field-0.0 c.in_ok-settings.ensures.ok c.in_err-separator.ensures.err)
+
 pub returns-clause-ok : goal.returns-clause-ok
 returns-clause-ok c = (
   refl,
@@ -43,6 +48,7 @@ returns-clause-ok c = (
     sym (first_value-rows (found_of c.args.matches.now) (codes "sizes")) ∙ sym c.get_str.ensures,
     c.stop_of.ensures,
     c.is_given.ensures,
+    c.in_ok-separator.ensures.ok,
   ),
   c.in_ok-settings.ensures.ok,
   c.is_given-2.ensures,

@@ -1,0 +1,10 @@
+use Rattle.crp_json.proofs.Chained.{after, closed}
+use Rattle.crp_json.proofs.objects.push_shown_object.Goals as goal
+
+pub returns : goal.returns
+returns c =
+    let start = c.args.out.now in
+    let opened = c.in_ok-begin_object.ensures in
+    let a = after start c.begin_object.new.self c.push_bay.new.out _ _ (opened.room.0, opened.ok) c.in_ok-push_bay.ensures in
+    let b = after start c.push_bay.new.out c.push_shown.new.out _ _ a c.in_ok-push_shown.ensures in
+    closed c.end_object.result start c.push_shown.new.out c.end_object.new.self _ _ b c.end_object.ensures
