@@ -6,7 +6,6 @@ use Rattle.crp_yard.specs.Reading.{IsTextOf}
 use Rattle.crp_said.specs.declared.numbers.Numbers.{Numbers}
 use Rattle.crp_follow.specs.declared.fault.FollowFault.{FollowFault}
 use Rattle.crp_follow.specs.declared.fault.FollowFault.TheVariants as followed
-use Rattle.crp_follow.specs.Behind.{IsListBehind}
 use Rattle.crp_follow.specs.Faults.{IsFirstFault}
 use Rattle.crp_follow.specs.Followed.{BayFollowed, IsFollowed}
 use Rattle.crp_loading.specs.declared.fault.LoadingFault.{LoadingFault}

@@ -24,7 +24,7 @@ some_done [] t is none = absurd (false≢true (sym none ∙ is))
 some_done (x ∷ xs) t is none = refl
 
 pub some_behind : (xs : List TurnColumns) (t : Bool) → t ≡ (length xs == 0) → t ≡ false
-    → behind_part (map recorded xs) ≡ codes "<p>Behind the last take of the bay:</p><ol style=\"columns:auto\">\n" ++ (flat_map behind_item (map recorded xs) ++ codes "</ol>")
+    → behind_part (map recorded xs) ≡ codes "<p>Behind the last take of the bay:</p><ol style=\"columns:auto;padding-left:3.5em\">\n" ++ (flat_map behind_item (map recorded xs) ++ codes "</ol>")
 some_behind [] t is none = absurd (false≢true (sym none ∙ is))
 some_behind (x ∷ xs) t is none = refl
 

@@ -59,13 +59,13 @@ behind_item r = move_in_item r.of_move.said ++ (codes " in bay " ++ (bay_name r.
 
 abbrev pub behind_part : List TurnRecord → List ℕ
 behind_part [] = []
-behind_part (r ∷ moves) = codes "<p>Behind the last take of the bay:</p><ol style=\"columns:auto\">\n" ++ (flat_map behind_item (r ∷ moves) ++ codes "</ol>")
+behind_part (r ∷ moves) = codes "<p>Behind the last take of the bay:</p><ol style=\"columns:auto;padding-left:3.5em\">\n" ++ (flat_map behind_item (r ∷ moves) ++ codes "</ol>")
 
 -- the head of the section of so many turns
 abbrev pub turns_head : ℕ → List ℕ
 turns_head turns =
     codes "<section id=\"ship\"><header><h2><a href=\"#ship\">Ship&#39;s order</a></h2><p>" ++ (counted turns (codes "container")
-    ++ codes ", each with its slot<a class=\"h\" href=\"#\">all bays</a></p></header><div><ol style=\"columns:auto\">\n")
+    ++ codes ", each with its slot<a class=\"h\" href=\"#\">all bays</a></p></header><div><ol style=\"columns:auto;padding-left:3.5em\">\n")
 
 -- the turns of these moves, and what is done behind them
 abbrev pub turns_body : ShipOrder → List TurnRecord → List ℕ

@@ -215,7 +215,7 @@ fn push_behind(text: &mut Vec<u8>, moves: &[TurnColumns<'_>]) -> Result<(), Allo
         return Ok(());
     }
     text.extend_from_slice(
-        b"<p>Behind the last take of the bay:</p><ol style=\"columns:auto\">\n",
+        b"<p>Behind the last take of the bay:</p><ol style=\"columns:auto;padding-left:3.5em\">\n",
     )?;
     push_behind_items(text, moves)?;
     text.extend_from_slice(b"</ol>")?;
@@ -231,7 +231,7 @@ fn push_turns_head(text: &mut Vec<u8>, turns: u64) -> Result<(), AllocError>
     )?;
     push_counted(text, turns, b"container")?;
     text.extend_from_slice(
-        b", each with its slot<a class=\"h\" href=\"#\">all bays</a></p></header><div><ol style=\"columns:auto\">\n",
+        b", each with its slot<a class=\"h\" href=\"#\">all bays</a></p></header><div><ol style=\"columns:auto;padding-left:3.5em\">\n",
     )?;
     Ok(())
 }
