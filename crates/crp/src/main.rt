@@ -13,7 +13,7 @@ use crate::piped::Piped;
 use crate::terminal::ErrorTerminal;
 use crp_commands::{Metered, Streams};
 use crp_files::SystemFiles;
-use crp_json::JsonLines;
+use crp_json::{JsonErrors, JsonLines};
 use crp_plan::Counted;
 use std::io::IsTerminal;
 use std::marker::Brand;
@@ -25,7 +25,9 @@ fn streams_of<R, W, E>(input: R, out: W, errors: E) -> Streams<R, W, E> {
 }
 
 fn main(rt: HostRuntime) -> ExitCode {
-    let terminal = ErrorTerminal::new(&rt);
+    let (words, (printed, head)) = words_and_head(&rt);
+    let is_json = head.is_some();
+    let terminal = ErrorTerminal::new(&rt, !is_json);
     let input = Metered {
         source: Counted::new(rt.stdin()),
         terminal: &terminal,
@@ -34,10 +36,10 @@ fn main(rt: HostRuntime) -> ExitCode {
         writer: rt.stdout(),
         terminal: rt.stdout().is_terminal().then_some(&terminal),
     };
-    let (words, (printed, head)) = words_and_head(&rt);
     let piped = Counted::new(Piped::new(cleared));
     let out = JsonLines::<_, Brand>::new(rt.alloc(), piped, printed, head);
-    let mut streams = streams_of(input, out, Counted::new(rt.stderr()));
+    let errors = JsonErrors::<_, Brand>::new(rt.alloc(), Counted::new(rt.stderr()), is_json);
+    let mut streams = streams_of(input, out, errors);
     let status = program::run(
         &rt,
         rt.alloc(),

@@ -17,12 +17,13 @@ pub struct ErrorTerminal<'a> {
 }
 
 impl<'a> ErrorTerminal<'a> {
-    /// Looks whether the standard error is a terminal, and begins to count the time. A terminal without a clock counts for none.
-    pub fn new(rt: &'a HostRuntime) -> ErrorTerminal<'a> {
+    /// Looks whether the standard error is a terminal on which something may be shown, and begins to count the time. A terminal without a clock
+    /// counts for none.
+    pub fn new(rt: &'a HostRuntime, is_shown: bool) -> ErrorTerminal<'a> {
         let begun = Instant::now(rt).ok();
         ErrorTerminal {
             rt,
-            is_there: begun.is_some() && rt.stderr().is_terminal(),
+            is_there: is_shown && begun.is_some() && rt.stderr().is_terminal(),
             begun,
             meter: Meter::new(rt.alloc()),
         }

@@ -218,13 +218,14 @@ so_far m (a ∷ more) [] are =
 -- ---- a run
 
 -- what a run saw that read two texts, with the bytes of two of its sinks before and after it
-abbrev pub seen_of : (yard movins old_report new_report old_certificates new_certificates : List ℕ) (y y' m m' r r' c c' a a' : ℕ) → RunSeen
-seen_of yard movins old_report new_report old_certificates new_certificates y y' m m' r r' c c' a a' = record {
+abbrev pub seen_of : (yard movins old_report new_report old_certificates new_certificates : List ℕ) (y y' m m' r r' c c' a a' separator : ℕ) → RunSeen
+seen_of yard movins old_report new_report old_certificates new_certificates y y' m m' r r' c c' a a' separator = record {
   yard = record { given = Some yard; before = y; after = y' };
   movins = record { given = Some movins; before = m; after = m' };
   report = record { held = Some old_report; holds = Some new_report; before = r; after = r' };
   certificates = record { held = Some old_certificates; holds = Some new_certificates; before = c; after = c' };
   yard_after = record { held = None; holds = None; before = a; after = a' };
+  separator = separator;
 }
 
 -- the two sinks got bytes of a run that ended for this fault
@@ -240,15 +241,15 @@ stops chosen s m is output.Certificates at = in_certificates m at.0.before at.0.
 stops chosen s m is output.YardAfter at =
     in_yard_after m at.0.before at.0.failed at.0.taken at.0.behind (first_cut m at.0.before at.0.failed at.0.behind at.1.0) at.2 (at.1.1 output.Report)
 
-pub ended : (chosen : RunChosen) (yard movins old_report new_report old_certificates new_certificates : List ℕ) (y y' m m' r r' c c' a a' : ℕ) (f : Fault)
-    → RunFailsWith chosen (seen_of yard movins old_report new_report old_certificates new_certificates y y' m m' r r' c c' a a') f
+pub ended : (chosen : RunChosen) (yard movins old_report new_report old_certificates new_certificates : List ℕ) (y y' m m' r r' c c' a a' separator : ℕ) (f : Fault)
+    → RunFailsWith chosen (seen_of yard movins old_report new_report old_certificates new_certificates y y' m m' r r' c c' a a' separator) f
     → Ended chosen yard movins old_report new_report old_certificates new_certificates f
-ended chosen yard movins ro rn co cn y y' m m' r r' c c' a a' (fault.Yard f) fails = ([], [], fails.0.0 ∙ sym (append-nil ro), fails.0.1 ∙ sym (append-nil co), (refl, refl))
-ended chosen yard movins ro rn co cn y y' m m' r r' c c' a a' (fault.Interchange f) fails = ([], [], fails.0.0 ∙ sym (append-nil ro), fails.0.1 ∙ sym (append-nil co), (refl, refl))
-ended chosen yard movins ro rn co cn y y' m m' r r' c c' a a' (fault.Message f) fails = ([], [], fails.0.0 ∙ sym (append-nil ro), fails.0.1 ∙ sym (append-nil co), (refl, refl))
-ended chosen yard movins ro rn co cn y y' m m' r r' c c' a a' (fault.Read source) fails = ([], [], fails.0.0 ∙ sym (append-nil ro), fails.0.1 ∙ sym (append-nil co), (refl, refl))
-ended chosen yard movins ro rn co cn y y' m m' r r' c c' a a' (fault.Write sink) fails =
-    let s = seen_of yard movins ro rn co cn y y' m m' r r' c c' a a' in
+ended chosen yard movins ro rn co cn y y' m m' r r' c c' a a' separator (fault.Yard f) fails = ([], [], fails.0.0 ∙ sym (append-nil ro), fails.0.1 ∙ sym (append-nil co), (refl, refl))
+ended chosen yard movins ro rn co cn y y' m m' r r' c c' a a' separator (fault.Interchange f) fails = ([], [], fails.0.0 ∙ sym (append-nil ro), fails.0.1 ∙ sym (append-nil co), (refl, refl))
+ended chosen yard movins ro rn co cn y y' m m' r r' c c' a a' separator (fault.Message f) fails = ([], [], fails.0.0 ∙ sym (append-nil ro), fails.0.1 ∙ sym (append-nil co), (refl, refl))
+ended chosen yard movins ro rn co cn y y' m m' r r' c c' a a' separator (fault.Read source) fails = ([], [], fails.0.0 ∙ sym (append-nil ro), fails.0.1 ∙ sym (append-nil co), (refl, refl))
+ended chosen yard movins ro rn co cn y y' m m' r r' c c' a a' separator (fault.Write sink) fails =
+    let s = seen_of yard movins ro rn co cn y y' m m' r r' c c' a a' separator in
     let fronts = fails.0 in
     let at = fronts.4 in (
       bytes_for output.Report (written at.0),
@@ -257,9 +258,9 @@ ended chosen yard movins ro rn co cn y y' m m' r r' c c' a a' (fault.Write sink)
       at.3 output.Certificates,
       (fronts.0, (s, refl, refl, fronts.1), stops chosen s fronts.0 fronts.1 sink at),
     )
-ended chosen yard movins ro rn co cn y y' m m' r r' c c' a a' fault.Memory (inl nothing) = ([], [], nothing.0 ∙ sym (append-nil ro), nothing.1 ∙ sym (append-nil co), inl (refl, refl))
-ended chosen yard movins ro rn co cn y y' m m' r r' c c' a a' fault.Memory (inr some) =
-    let s = seen_of yard movins ro rn co cn y y' m m' r r' c c' a a' in
+ended chosen yard movins ro rn co cn y y' m m' r r' c c' a a' separator fault.Memory (inl nothing) = ([], [], nothing.0 ∙ sym (append-nil ro), nothing.1 ∙ sym (append-nil co), inl (refl, refl))
+ended chosen yard movins ro rn co cn y y' m m' r r' c c' a a' separator fault.Memory (inr some) =
+    let s = seen_of yard movins ro rn co cn y y' m m' r r' c c' a a' separator in
     let pieces = some.3 in (
       bytes_for output.Report pieces.0,
       bytes_for output.Certificates pieces.0,

@@ -9,6 +9,7 @@ ghost use Rattle.crp_yard.specs.Inventory.{Inventory};
 ghost use Rattle.crp_yard.specs.Naming.{IsNamedBay};
 ghost use Rattle.crp_yard.specs.Reading.{IsYardListOf};
 ghost use Rattle.crp_yard.specs.Text.{yard_text};
+ghost use Rattle.crp_separated.specs.Inputs.{with_separator};
 ghost use Rattle.crp_order.specs.declared.sequences.Mode.{Mode};
 ghost use Rattle.crp_order.specs.OfBays.{IsSequenceOf};
 ghost use Rattle.crp_solve.specs.declared.answer.Answer.{Answer};
@@ -72,7 +73,7 @@ pub fn check_of_answer(alloc: Global, problem: &Problem, text: &[u8]) -> Result<
 pub fn follow_of_run(alloc: Global, yard: &Yard, report: &[u8]) -> Result<Followed, FollowFault>
     ensures { (chosen : RunChosen) (seen : RunSeen) (made : Made) → IsMade chosen seen made → yard.now ≡ made.yard → report.now ≡ made.report
         → MatchResult result
-        (λ followed. (after : Inventory) × (made.yard_after ≡ yard_text after)
+        (λ followed. (after : Inventory) × (made.yard_after ≡ with_separator seen.separator (yard_text after))
         × AllByRecursion (λ b. rows_in after b.stated.bay ≡ Some b.after) (map bay_followed followed.bays.items)
         × ((bay : YardBay) → is_named (map (λ b. b.stated) (map bay_followed followed.bays.items)) bay ≡ false → rows_in after bay ≡ rows_in yard.now bay))
         (λ fault. fault ≡ Fault.Memory) }

@@ -12,7 +12,7 @@ use Rattle.crp_jobs.specs.declared.outcome.ToolFault.{ToolFault}
 use Rattle.crp_jobs.specs.Opened.{FilesSeen}
 use Rattle.crp_commands.specs.Absent.{AbsentChosen, AbsentSeen, absent_by, AbsentEnds, AbsentFails, AbsentReportsOverFiles, AbsentFailsOverFiles, IsAbsentText, IsOverInput}
 use Rattle.crp_commands.specs.Audit.{IsInputOf}
-use Rattle.crp_commands.specs.Lists.{with_separator}
+use Rattle.crp_separated.specs.Inputs.{with_separator}
 
 pub is_listed : (chosen : AbsentChosen) (yard movins : SourceSeen) (stands : Inventory) (orders : LoadOrders) (sequence : List (List ℕ)) (list : List Order)
     (made parted text : List ℕ) → IsInputOf chosen.input yard movins stands orders sequence → list ≡ orders.list → made ≡ absent_text stands list

@@ -41,6 +41,7 @@ pub record CourseOf (names : RunFiles) (cert after : Option (List ℕ)) (k : Tim
   pub written : AreWritten cert after k n.first n.one_finished n.finished u.certificates u.yard_after s.certificates s.yard_after
   pub yard_closed : CountsMore s.yard.after n.finished n.one_closed
   pub movins_closed : CountsMore s.movins.after n.one_closed n.last
+  pub separator : s.separator ≡ names.separator
 
 abbrev pub Course : RunFiles → Times → Counts → Unfinished → RunSeen → Type 0
 Course names k n u s = CourseOf names (file_of names output.Certificates) (file_of names output.YardAfter) k n u s
@@ -69,6 +70,7 @@ over_course names k n u s c = record {
   report = refl;
   certificates = one_wanted _ _ k _ _ _ _ _ _ _ c.written;
   yard_after = two_wanted _ _ k _ _ _ _ _ _ _ c.written;
+  separator = c.separator;
   failed = closed_all _ _ _ _ _ _ _ _ _ c.written.one_written.count c.written.two_written.count c.yard_closed c.movins_closed;
   left = left_of names k n u s c;
   others = λ other apart. others_kept _ _ k _ _ _ _ _ _ _ c.written other (apart output.Certificates) (apart output.YardAfter);

@@ -19,7 +19,7 @@ use Rattle.crp_report.specs.Runs.{SourceSeen, SinkSeen, GetsFront, GetsNothing}
 use Rattle.crp_jobs.specs.declared.outcome.ToolFault.{ToolFault}
 use Rattle.crp_jobs.specs.declared.outcome.ToolFault.TheVariants as fault
 use Rattle.crp_jobs.specs.Outcomes.{fault_of_follow, fault_of_loading}
-use Rattle.crp_commands.specs.Lists.{with_separator}
+use Rattle.crp_separated.specs.Inputs.{with_separator}
 use Rattle.crp_commands.specs.Follow.{AreTextsOf, HasNoTexts, IsFollowInput, IsPartedList, Ship, StopsPage, StopsWriting, Texts, WritesPart, WritesWhole, if_asked, loading_faults, made_for, numbers_for, order_for, sink_failures, table_for}
 use Rattle.crp_commands.specs.Noted.{IsNotedBy}
 use Rattle.crp_commands.specs.Partial.{IsReportIn}

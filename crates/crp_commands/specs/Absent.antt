@@ -15,7 +15,8 @@ use Rattle.crp_jobs.specs.declared.job.AbsentFiles.{AbsentFiles}
 use Rattle.crp_jobs.specs.declared.outcome.ToolFault.{ToolFault}
 use Rattle.crp_jobs.specs.declared.outcome.ToolFault.TheVariants as fault
 use Rattle.crp_jobs.specs.Opened.{FilesSeen, FilesFail, AreFilesKept, IsFileOpened, IsOneRefused, IsLeftAlone}
-use Rattle.crp_commands.specs.Lists.{IsListOpened, with_separator}
+use Rattle.crp_separated.specs.Inputs.{with_separator}
+use Rattle.crp_commands.specs.Lists.{IsListOpened}
 use Rattle.crp_commands.specs.Audit.{IsInputOf, IsNoInput}
 use Rattle.crp_commands.specs.Calls.{failures_of_tool_fault}
 

@@ -24,7 +24,8 @@ use Rattle.crp_jobs.specs.declared.outcome.ToolFault.{ToolFault}
 use Rattle.crp_jobs.specs.declared.outcome.ToolFault.TheVariants as fault
 use Rattle.crp_jobs.specs.Outcomes.{fault_of_follow}
 use Rattle.crp_jobs.specs.Opened.{FilesSeen, FilesFail, AreFilesKept, IsFileOpened, IsOneRefused, IsSourceLeftAlone, IsLeftAlone}
-use Rattle.crp_commands.specs.Lists.{IsListOpened, with_separator}
+use Rattle.crp_separated.specs.Inputs.{with_separator}
+use Rattle.crp_commands.specs.Lists.{IsListOpened}
 use Rattle.crp_commands.specs.Calls.{failures_of_tool_fault}
 use Rattle.crp_commands.specs.Follow.{IsNoReport, IsYardIn}
 use Rattle.crp_commands.specs.Partial.{IsReportIn}

@@ -44,7 +44,8 @@ use Rattle.crp_files.specs.Known.{KnownFiles}
 use Rattle.crp_files.specs.Roles.{IsShared}
 use Rattle.crp_jobs.specs.Names.{after_name, named_in_follow}
 use Rattle.crp_jobs.specs.Opened.{FilesSeen, FilesFail, AreUnemptied, IsFileOpened, IsFileMade, IsLeft, IsSourceLeftAlone, IsLeftAlone}
-use Rattle.crp_commands.specs.Lists.{IsListOpened, with_separator}
+use Rattle.crp_separated.specs.Inputs.{with_separator}
+use Rattle.crp_commands.specs.Lists.{IsListOpened}
 
 -- what is asked for: what the input means, how many containers the ship has got, if the yard after is that of then, whether the report may end early,
 -- whether the table is to be that of the bays, and the byte between the fields of what is written

@@ -94,13 +94,14 @@ IsOfRefused files names f = ⊥
 -- what a run saw that opens its inputs by their names, and makes the files of the certificates and of the yard after where they are asked for; its report goes
 -- to a sink of the caller's. What failed of the files is what failed of these devices, and of finishing the two. Where files state what is written to them,
 -- what each of the two sinks holds stands under the name that was given for it, unless it could not be finished; and no other file has changed. No file that it
--- writes is known to be another one of its files, or to stand behind a standard stream
+-- writes is known to be another one of its files, or to stand behind a standard stream. The yard after has the separator of the yard list
 pub record IsOverFiles (files : FilesSeen) (names : RunFiles) (out : SinkSeen) (u : Unfinished) (s : RunSeen) : Type 0 where
   pub yard : IsListOpened files.known names.separator names.yard.now s.yard
   pub movins : IsFileOpened files.known names.movins.now s.movins
   pub report : s.report ≡ out
   pub certificates : IsWanted files.known (file_of names output.Certificates) u.certificates s.certificates
   pub yard_after : IsWanted files.known (file_of names output.YardAfter) u.yard_after s.yard_after
+  pub separator : s.separator ≡ names.separator
   pub failed : FilesFail files (s.yard.after + (s.movins.after + ((s.certificates.after + u.certificates) + (s.yard_after.after + u.yard_after))))
   pub left : AreTwo files.known names → (each : Output) → IsLeft files (file_of names each) (unfinished_of u each) (sink_of s each)
   pub others : (other : List ℕ) → IsNotWritten files.known names other → files.left.given other ≡ files.known.given other

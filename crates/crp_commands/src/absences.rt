@@ -4,11 +4,11 @@ ghost use Rattle.crp_report.specs.Runs.{sink_seen, source_seen};
 ghost use Rattle.crp_commands.specs.Absent.{AbsentSeen, AbsentEnds, AbsentFails};
 
 use crate::auditing::input_from;
-use crate::lists::with_separator;
 use crp_jobs::ToolFault;
 use crp_order::absent_list;
 use crp_plan::{Sink, Source, write_all};
 use crp_report::{InputSettings, Status};
+use crp_separated::with_separator;
 use std::alloc::Global;
 
 /// Writes the list of the ordered containers that are not in the yard: a header, and a record for each, in the order of the message,

@@ -11,16 +11,16 @@ ghost use Rattle.crp_jobs.specs.declared.outcome.ToolFault.{ToolFault as Fault};
 ghost use Rattle.crp_jobs.specs.declared.outcome.ToolFault.TheVariants.{WriteTable};
 ghost use Rattle.crp_commands.specs.Calls.{failures_of_tool_fault};
 ghost use Rattle.crp_commands.specs.Compare.{CompareEnds, CompareFails, CompareSeen, IsNotFollowed, IsReportFollowed, second_of};
-ghost use Rattle.crp_commands.specs.Lists.{with_separator};
+ghost use Rattle.crp_separated.specs.Inputs.{with_separator};
 ghost use Rattle.crp_commands.specs.Noted.{IsNotedBy};
 
 use crate::following::report_from;
-use crate::lists::with_separator;
 use crate::partial::whole_in;
 use crp_follow::{Followed, compare_text};
 use crp_jobs::ToolFault;
 use crp_plan::{Sink, Source, write_all};
 use crp_report::{InputSettings, Status, yard_from};
+use crp_separated::with_separator;
 use crp_yard::Yard;
 use std::alloc::{AllocError, Global};
 

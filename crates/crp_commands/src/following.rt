@@ -15,11 +15,10 @@ ghost use Rattle.crp_report.specs.declared.fault.Fault.TheVariants.{Write};
 ghost use Rattle.crp_report.specs.declared.fault.Output.TheVariants.{YardAfter};
 ghost use Rattle.crp_commands.specs.Calls.{failures_of_tool_fault};
 ghost use Rattle.crp_commands.specs.Follow.{FollowEnds, FollowFails, FollowSeen, HasNoTexts, IsFollowInput, IsNoFollowInput, IsNoReport, IsPartedList, StopsPage, StopsWriting, Texts, TextsSeen, WritesAll, WritesPart, WritesWhole, if_asked, loading_faults, made_for, numbers_for, order_for, source_failures, table_for};
-ghost use Rattle.crp_commands.specs.Lists.{with_separator};
+ghost use Rattle.crp_separated.specs.Inputs.{with_separator};
 ghost use Rattle.crp_commands.specs.Noted.{IsNotedBy};
 
 use crate::auditing::{InputRead, input_from};
-use crate::lists::with_separator;
 use crate::partial::report_in;
 use crate::tables::table_for;
 use crp_follow::{FollowFault, Followed, MAX_BYTES, list_behind, move_counts};
@@ -32,6 +31,7 @@ use crp_page::{OrderNumbers, write_page};
 use crp_plan::{ReadFault, Sink, Source, WriteFault, read_all, write_all};
 use crp_report::{Fault, InputSettings, Output, Status, numbers_of, yard_from};
 use crp_said::Numbers;
+use crp_separated::with_separator;
 use crp_yard::Yard;
 use std::alloc::{AllocError, Global};
 

@@ -20,7 +20,6 @@ mod comparing;
 mod finishing;
 mod following;
 mod heads;
-mod lists;
 mod noting;
 mod over_absent_files;
 mod over_audit_files;

@@ -93,6 +93,7 @@ fn solve_to<
         movins,
         certificates,
         yard_after,
+        separator: names.separator,
     };
     let answer = run_watched(
         threads,

@@ -10,8 +10,8 @@ use crate::heads::head_from;
 use crp_incumbent::Board;
 use crp_jobs::ToolFault;
 use crp_notes::{Progress, Terminal};
-use crp_plan::{Sink, Source, write_all};
-use crp_report::{Status, Timer, certificate_by, status_of};
+use crp_plan::{Sink, Source};
+use crp_report::{Status, Timer, certificate_by, status_of, write_shares};
 use crp_solve::{Settings, solve};
 use std::alloc::Global;
 use std::sync::Wait;
@@ -50,7 +50,7 @@ pub fn prove<T: Threads + Wait + Sync, S: Terminal + Sync, R: Source, W: Sink>(
     progress.clear();
     let solved = answer?;
     let status = status_of(&solved.answer);
-    let text = certificate_by(
+    let shares = certificate_by(
         rt,
         alloc,
         settings.workers(),
@@ -58,6 +58,6 @@ pub fn prove<T: Threads + Wait + Sync, S: Terminal + Sync, R: Source, W: Sink>(
         &head.problem,
         &solved.answer,
     )?;
-    write_all(writer, &text, &mut interruptions)?;
+    write_shares(writer, &shares, &mut interruptions)?;
     Ok(status)
 }

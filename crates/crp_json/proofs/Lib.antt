@@ -9,3 +9,5 @@ pub mod ChainLines
 pub mod BoundLines
 pub mod NoEntry
 pub mod OneJson
+pub mod Codes
+pub mod Telling

@@ -31,12 +31,12 @@ appended printed None holds new_holds (Some line) failed (Err e) pieces new_piec
 appended printed (Some before) holds new_holds (Some line) failed (Err e) pieces new_pieces piece a = ap (λ (ps : List (List Entry)). before ++ report_of (entries_in ps)) a
 
 -- a count that is 0 behind a failure cannot be
-not_none : (failed : ℕ) → 0 ≡ failed + min 1 (2 ^ 64 - 1 - failed) → ⊥
+pub not_none : (failed : ℕ) → 0 ≡ failed + min 1 (2 ^ 64 - 1 - failed) → ⊥
 not_none zero e = omega (arith, e)
 not_none (suc n) e = omega (arith, e)
 
 -- what was written grows by the JSON Line
-grown : (holds new_holds : Option (List ℕ)) (before bytes more : List ℕ) → holds ≡ Some (before ++ bytes) → Appends holds new_holds more → new_holds ≡ Some (before ++ (bytes ++ more))
+pub grown : (holds new_holds : Option (List ℕ)) (before bytes more : List ℕ) → holds ≡ Some (before ++ bytes) → Appends holds new_holds more → new_holds ≡ Some (before ++ (bytes ++ more))
 grown None new_holds before bytes more e a = absurd (none-some _ e)
 grown (Some xs) None before bytes more e a = absurd a
 grown (Some xs) (Some ys) before bytes more e a = ap Some (a ∙ ap (λ l. l ++ more) (same_Some xs (before ++ bytes) e) ∙ append_assoc before bytes more)

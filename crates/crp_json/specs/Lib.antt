@@ -4,3 +4,5 @@ pub mod Lines
 pub mod Checks
 pub mod Adding
 pub mod Shown
+pub mod Errors
+pub mod Told

@@ -80,10 +80,13 @@ bay_tokens bay = object (member (codes "block") (text_token bay.block) ++ member
 abbrev pub place_tokens : Place → List Token
 place_tokens p = object (member (codes "row") (number_token p.row) ++ member (codes "tier") (number_token p.tier))
 
--- the member that names a container: its bytes, or the hexadecimal digits of its bytes where they are no UTF-8
+-- the member of a text: its bytes, or under the other name the hexadecimal digits of its bytes where they are no UTF-8
+abbrev pub bytes_member : List ℕ → List ℕ → List ℕ → List Token
+bytes_member name hex_name bytes = if is_utf8 bytes then member name (text_token bytes) else member hex_name (text_token (encode_lower bytes))
+
+-- the member that names a container
 abbrev pub container_member : List ℕ → List Token
-container_member name =
-    if is_utf8 name then member (codes "container") (text_token name) else member (codes "container_hex") (text_token (encode_lower name))
+container_member name = bytes_member (codes "container") (codes "container_hex") name
 
 -- what a move does, and where and to which container
 abbrev pub move_members : SaidMove → List Token

@@ -1,6 +1,8 @@
 //! Laws of the definitions. Each is the contract of a function that does nothing.
-ghost use Rattle.std.specs.Prelude.{◌≡◌, ◌∷◌, [], ℕ, List, None, Some, true, false, codes};
+ghost use Rattle.std.specs.Prelude.{◌≡◌, ◌∷◌, ◌++◌, [], ℕ, List, flat_map, None, Some, true, false, codes};
+ghost use Rattle.std.specs.List.{AllByRecursion};
 ghost use Rattle.json.specs.Print.{print};
+ghost use Rattle.crp_said.specs.Spelled.{ended};
 ghost use Rattle.crp_said.specs.declared.said.SaidCause.TheVariants.{Budget};
 ghost use Rattle.crp_said.specs.declared.said.Said.TheVariants.{First, NoPlan, Between};
 ghost use Rattle.crp_said.specs.declared.moves.SaidMove.TheVariants.{Shift, Take};
@@ -8,6 +10,7 @@ ghost use Rattle.crp_checker.specs.declared.verdict.Verdict.TheVariants as verdi
 ghost use Rattle.crp_json.specs.declared.entry.Printed.{Printed};
 ghost use Rattle.crp_json.specs.Objects.{numbers_object, bay_object, last_object, shown_object, audited_object, bounds_object, array, ranks_tokens};
 ghost use Rattle.crp_json.specs.Lines.{AreJsonLines};
+ghost use Rattle.crp_json.specs.Errors.{error_line, error_object, objects_of, IsLine};
 
 /// What is printed, or a front of it that ends behind an entry, has one text of JSON Lines at most.
 pub fn one_json()
@@ -34,4 +37,26 @@ pub fn worked_cases()
     ensures ranks { print (array (ranks_tokens (record { begins = true; rank = 1 } ∷ record { begins = false; rank = 12 } ∷ record { begins = true; rank = 4 } ∷ []))) ≡ codes "[[1,12],[4]]" }
     ensures audited { print (audited_object 12) ≡ codes "{\"audited\":12}" }
     ensures last { print (last_object 2 1) ≡ codes "{\"bays\":2,\"decided\":1}" }
+{}
+
+/// Of bytes that are some lines, and the begin of another one behind them, the objects are those of the lines, in their order.
+pub fn lines_are_shown()
+    ensures { (lines : List (List ℕ)) (begun : List ℕ) → AllByRecursion IsLine lines → IsLine begun → objects_of (flat_map ended lines ++ begun) ≡ flat_map error_line lines }
+{}
+
+/// Some objects of lines of the standard error by hand: of notes, one of which is no UTF-8, of a bay that begins, of faults, and of advice.
+pub fn worked_errors()
+    ensures note { print (error_object (codes "crp: note: the file holds no certificate")) ≡ codes "{\"note\":\"the file holds no certificate\"}" }
+    ensures hex { print (error_object (codes "crp: note: " ++ (67 ∷ 255 ∷ []))) ≡ codes "{\"note_hex\":\"43ff\"}" }
+    ensures progress { print (error_object (codes "crp: bay 2 of 3, B 12")) ≡ codes "{\"progress\":\"bay 2 of 3, B 12\"}" }
+    ensures fault { print (error_object (codes "crp: C5 at line 8")) ≡ codes "{\"fault\":\"C5 at line 8\",\"code\":\"C5\",\"at\":\"line 8\"}" }
+    ensures named { print (error_object (codes "crp: certificate 2: K3 at part / symbol 2"))
+        ≡ codes "{\"fault\":\"certificate 2: K3 at part / symbol 2\",\"code\":\"K3\",\"at\":\"part / symbol 2\"}" }
+    ensures first { print (error_object (codes "crp: A6 at bay B 2: C1 at line 1"))
+        ≡ codes "{\"fault\":\"A6 at bay B 2: C1 at line 1\",\"code\":\"A6\",\"at\":\"bay B 2: C1 at line 1\"}" }
+    ensures alone { print (error_object (codes "crp: S12")) ≡ codes "{\"fault\":\"S12\",\"code\":\"S12\",\"at\":null}" }
+    ensures no_place { print (error_object (codes "crp: certificate 1: K2 (Q2 at step 1)"))
+        ≡ codes "{\"fault\":\"certificate 1: K2 (Q2 at step 1)\",\"code\":\"K2\",\"at\":null}" }
+    ensures no_code { print (error_object (codes "crp: the report: too many bytes")) ≡ codes "{\"fault\":\"the report: too many bytes\",\"code\":null,\"at\":null}" }
+    ensures advice { print (error_object (codes "look at the file a\"b: close it")) ≡ codes "{\"advice\":\"look at the file a\\\"b: close it\"}" }
 {}

@@ -142,8 +142,8 @@ fn answer_to<S: Sink>(
     show(alloc, out, printed, first, pieces, piece)
 }
 
-// The count of failures with that of an answer to a piece, if it is one.
-fn count(failed: u64, answer: Result<usize, Failure>, piece: &[u8]) -> u64
+/// The count of failures with that of an answer to a piece, if it is one.
+pub(crate) fn count(failed: u64, answer: Result<usize, Failure>, piece: &[u8]) -> u64
     ensures { CountsWrite failed result answer piece.now }
 {
     match answer {

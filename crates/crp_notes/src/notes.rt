@@ -293,11 +293,11 @@ impl<'a, T: Terminal> Notes<'a, T> {
     }
 
     // One certificate more, with which the file may grow past what a check takes.
-    fn size<E: Sink>(&mut self, alloc: Global, bay: &BayProblem, certificate: &[u8], errors: &mut E)
+    fn size<E: Sink>(&mut self, alloc: Global, bay: &BayProblem, bytes: usize, errors: &mut E)
         ensures { ShowsMore (E.contents errors.old) (E.contents errors.new) }
     {
         let before = self.certificates;
-        self.certificates = before.saturating_add(certificate.len());
+        self.certificates = before.saturating_add(bytes);
         if before <= self.largest && self.largest < self.certificates {
             self.lines
                 .note(errors, size_note(alloc, self.largest, &bay.bay));
@@ -359,12 +359,12 @@ impl<'a, T: Terminal + Sync> Watch for Notes<'a, T> {
         alloc: Global,
         bay: &BayProblem,
         solved: &Solved,
-        certificate: &[u8],
+        bytes: usize,
         errors: &mut E,
     ) {
         self.stopped(alloc, &solved.answer, errors);
         self.bay(alloc, bay, &solved.answer, errors);
-        self.size(alloc, bay, certificate, errors);
+        self.size(alloc, bay, bytes, errors);
         self.keep(alloc, &bay.bay, &solved.answer);
     }
 

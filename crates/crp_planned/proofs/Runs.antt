@@ -201,7 +201,7 @@ all_known : (yard : Inventory) (bays : List StackedBay) → AllByRecursion (λ (
 all_known yard [] fit names stand = tt
 all_known yard (bay ∷ bays) fit names stand = (record { fit = fit.0; names = names.0; stands = stand.0 }, all_known yard bays fit.1 names.1 stand.1)
 
-pub run_followed : KeepsHeights → IsStatedAsWritten → (chosen : RunChosen) (seen : RunSeen) (m : Made) → IsMade chosen seen m → IsRunFollowed m
+pub run_followed : KeepsHeights → IsStatedAsWritten → (chosen : RunChosen) (seen : RunSeen) (m : Made) → IsMade chosen seen m → IsRunFollowed seen.separator m
 run_followed keep states chosen seen m is =
     let yard = m.yard in
     let called = filter (is_called m.sequence) yard.bays in

@@ -7,6 +7,7 @@ use Rattle.crp_plan.specs.BayNames.{YardBay}
 use Rattle.crp_yard.specs.Inventory.{Inventory}
 use Rattle.crp_yard.specs.Ranks.{named}
 use Rattle.crp_yard.specs.Text.{yard_text}
+use Rattle.crp_separated.specs.Inputs.{with_separator}
 use Rattle.crp_order.specs.BayProblems.{ranked}
 use Rattle.crp_said.specs.declared.numbers.Numbers.{Numbers}
 use Rattle.crp_follow.specs.Crane.{Stack}
@@ -29,9 +30,9 @@ pub record LeadsToYard (yard : Inventory) (text : List ℕ) (numbers : Numbers) 
   pub ends : AllByRecursion (λ b. rows_in after b.stated.bay ≡ Some b.after) bays
   pub others : (bay : YardBay) → is_named (map (λ b. b.stated) bays) bay ≡ false → rows_in after bay ≡ rows_in yard bay
 
--- the report of a run is followed over its yard, and the yard list that it writes is that of the yard at the end
-abbrev pub IsRunFollowed : Made → Type 0
-IsRunFollowed m = (after : Inventory) × LeadsToYard m.yard m.report (numbers_of m.yard m.orders m.sequence) after × (m.yard_after ≡ yard_text after)
+-- the report of a run is followed over its yard, and the yard list that it writes is that of the yard at the end, with this byte between fields
+abbrev pub IsRunFollowed : ℕ → Made → Type 0
+IsRunFollowed separator m = (after : Inventory) × LeadsToYard m.yard m.report (numbers_of m.yard m.orders m.sequence) after × (m.yard_after ≡ with_separator separator (yard_text after))
 
 -- ---- a headline
 

@@ -33,7 +33,7 @@ pub fn plans_are_followed()
 /// The report of a run is followed over the run's yard to its end, and no first fault is found in it: for every yard list, message,
 /// settings and schedule. At the end stands in the yard what the run writes as the yard list after the plans.
 pub fn runs_are_followed()
-    ensures followed { (chosen : RunChosen) (seen : RunSeen) (made : Made) → IsMade chosen seen made → IsRunFollowed made }
+    ensures followed { (chosen : RunChosen) (seen : RunSeen) (made : Made) → IsMade chosen seen made → IsRunFollowed seen.separator made }
     ensures faultless { (chosen : RunChosen) (seen : RunSeen) (made : Made) (fault : FollowFault) → IsMade chosen seen made
         → ¬ IsFirstFault made.yard made.report fault }
 {

@@ -64,95 +64,95 @@ named_problems yard problems named = λ i d below. let is = named i d below in i
 -- ---- the end of a run
 
 -- plans leave some yard
-some_text : (yard : Inventory) (plans : List BayPlan) → All IsCompletePlan plans → (text : List ℕ) × IsTextAfter yard plans text
-some_text yard plans complete = let (left, after) = yard_left yard plans complete in (_, (left, after, refl))
+some_text : (separator : ℕ) (yard : Inventory) (plans : List BayPlan) → All IsCompletePlan plans → (text : List ℕ) × IsTextAfter separator yard plans text
+some_text separator yard plans complete = let (left, after) = yard_left yard plans complete in (_, (left, after, refl))
 
 -- nothing of it was written
-pub end_not_made : (yard : Inventory) (done : BaysDone) (s : Sinks) → s.passed ≤ most_interruptions → All IsCompletePlan done.plans.items → StopsEnd yard done s s fault.Memory
-end_not_made yard done s few complete =
-    let (text, is) = some_text yard done.plans.items complete in
+pub end_not_made : (separator : ℕ) (yard : Inventory) (done : BaysDone) (s : Sinks) → s.passed ≤ most_interruptions → All IsCompletePlan done.plans.items → StopsEnd separator yard done s s fault.Memory
+end_not_made separator yard done s few complete =
+    let (text, is) = some_text separator yard done.plans.items complete in
     (text, is, stops_first (end_pieces done.bays done.decided text) s few)
 
 -- the line that counts the bays was not all written
-pub line_not_written : (yard : Inventory) (done : BaysDone) (line text : List ℕ) (a b : Sinks) (f : Fault) → line ≡ bays_line done.bays done.decided
-    → IsTextAfter yard done.plans.items text → StopsWith (piece output.Report line ∷ []) a b f → StopsEnd yard done a b f
-line_not_written yard done line text a b f e is stop =
+pub line_not_written : (separator : ℕ) (yard : Inventory) (done : BaysDone) (line text : List ℕ) (a b : Sinks) (f : Fault) → line ≡ bays_line done.bays done.decided
+    → IsTextAfter separator yard done.plans.items text → StopsWith (piece output.Report line ∷ []) a b f → StopsEnd separator yard done a b f
+line_not_written separator yard done line text a b f e is stop =
     (text, is, stops_before (piece output.Report (bays_line done.bays done.decided) ∷ []) (piece output.YardAfter text ∷ []) a b f (rw e at stop))
 
 -- it was, and how the write of the yard after ended
-pub end_written : {T : Type 0} (r : Result T Fault) (yard : Inventory) (done : BaysDone) (line text : List ℕ) (a b c : Sinks) → line ≡ bays_line done.bays done.decided
-    → IsTextAfter yard done.plans.items text → Writes (piece output.Report line ∷ []) a b
+pub end_written : {T : Type 0} (r : Result T Fault) (separator : ℕ) (yard : Inventory) (done : BaysDone) (line text : List ℕ) (a b c : Sinks) → line ≡ bays_line done.bays done.decided
+    → IsTextAfter separator yard done.plans.items text → Writes (piece output.Report line ∷ []) a b
     → MatchResult r (λ _. Writes (piece output.YardAfter text ∷ []) b c) (StopsWith (piece output.YardAfter text ∷ []) b c)
-    → MatchResult r (λ _. WritesEnd yard done a c) (StopsEnd yard done a c)
-end_written (Ok v) yard done line text a b c e is first next =
+    → MatchResult r (λ _. WritesEnd separator yard done a c) (StopsEnd separator yard done a c)
+end_written (Ok v) separator yard done line text a b c e is first next =
     (text, is, gets_then (piece output.Report (bays_line done.bays done.decided) ∷ []) (piece output.YardAfter text ∷ []) 0 a b c (rw e at first) next)
-end_written (Err f) yard done line text a b c e is first stop =
+end_written (Err f) separator yard done line text a b c e is first stop =
     (text, is, stops_behind (piece output.Report (bays_line done.bays done.decided) ∷ []) (piece output.YardAfter text ∷ []) a b c f (rw e at first) stop)
 
 -- ---- the pieces of a run
 
 -- from those of its bays
-run_pieces : (chosen : Chosen) (yard : Inventory) (first text : List ℕ) (problems : List BayProblem) (answered : List Answered) (bays : List Piece) → AreTrueAnswers chosen problems answered
-    → AreBayPieces answered bays → IsYardTextAfter yard answered text
-    → AreRunPieces chosen yard first problems answered (piece output.Report first ∷ (bays ++ end_pieces (length answered) (decided answered) text))
-run_pieces chosen yard first text problems answered bays true_answers are after =
+run_pieces : (separator : ℕ) (chosen : Chosen) (yard : Inventory) (first text : List ℕ) (problems : List BayProblem) (answered : List Answered) (bays : List Piece) → AreTrueAnswers chosen problems answered
+    → AreBayPieces answered bays → IsYardTextAfter separator yard answered text
+    → AreRunPieces separator chosen yard first problems answered (piece output.Report first ∷ (bays ++ end_pieces (length answered) (decided answered) text))
+run_pieces separator chosen yard first text problems answered bays true_answers are after =
     record { true_answers = true_answers; text = text; after = after; are = (bays, are, refl) }
 
 -- the first line was not all written
-pub run_stops_first : (chosen : Chosen) (yard : Inventory) (first : List ℕ) (problems : List BayProblem) (a b : Sinks) (f : Fault) → All (IsNamed yard) problems
-    → StopsWith (piece output.Report first ∷ []) a b f → StopsRun chosen yard first problems a b f
-run_stops_first chosen yard first problems a b f named stop =
+pub run_stops_first : (separator : ℕ) (chosen : Chosen) (yard : Inventory) (first : List ℕ) (problems : List BayProblem) (a b : Sinks) (f : Fault) → All (IsNamed yard) problems
+    → StopsWith (piece output.Report first ∷ []) a b f → StopsRun separator chosen yard first problems a b f
+run_stops_first separator chosen yard first problems a b f named stop =
     let can = can_be_answered chosen problems (recursion_from_All (λ (x : BayProblem). IsProblem x.problem) problems (named_problems yard problems named)) in
-    let (text, after) = some_text yard (bay_plans can.answered) (plans_complete chosen problems can.answered can.true_answers) in
+    let (text, after) = some_text separator yard (bay_plans can.answered) (plans_complete chosen problems can.answered can.true_answers) in
     let behind : List Piece = can.pieces ++ end_pieces (length can.answered) (decided can.answered) text in (
       can.answered,
       piece output.Report first ∷ behind,
-      run_pieces chosen yard first text problems can.answered can.pieces can.true_answers can.are after,
+      run_pieces separator chosen yard first text problems can.answered can.pieces can.true_answers can.are after,
       stops_before (piece output.Report first ∷ []) behind a b f stop,
     )
 
 -- the bays were not
-pub run_stops_in_bays : (chosen : Chosen) (yard : Inventory) (first : List ℕ) (problems : List BayProblem) (a b c : Sinks) (f : Fault) → Writes (piece output.Report first ∷ []) a b
-    → StopsBays chosen problems b c f → StopsRun chosen yard first problems a c f
-run_stops_in_bays chosen yard first problems a b c f got (answered, true_answers, (bays, are, stop)) =
-    let (text, after) = some_text yard (bay_plans answered) (plans_complete chosen problems answered true_answers) in
+pub run_stops_in_bays : (separator : ℕ) (chosen : Chosen) (yard : Inventory) (first : List ℕ) (problems : List BayProblem) (a b c : Sinks) (f : Fault) → Writes (piece output.Report first ∷ []) a b
+    → StopsBays chosen problems b c f → StopsRun separator chosen yard first problems a c f
+run_stops_in_bays separator chosen yard first problems a b c f got (answered, true_answers, (bays, are, stop)) =
+    let (text, after) = some_text separator yard (bay_plans answered) (plans_complete chosen problems answered true_answers) in
     let end : List Piece = end_pieces (length answered) (decided answered) text in (
       answered,
       piece output.Report first ∷ (bays ++ end),
-      run_pieces chosen yard first text problems answered bays true_answers are after,
+      run_pieces separator chosen yard first text problems answered bays true_answers are after,
       stops_behind (piece output.Report first ∷ []) (bays ++ end) a b c f got (stops_before bays end b c f stop),
     )
 
 -- the plans that are kept leave the yard that the answers do
-after_kept : (yard : Inventory) (answered : List Answered) (done : BaysDone) (text : List ℕ) → AreKept answered done → IsTextAfter yard done.plans.items text → IsYardTextAfter yard answered text
-after_kept yard answered done text kept is = subst (λ (plans : List BayPlan). IsTextAfter yard plans text) kept.plans is
+after_kept : (separator : ℕ) (yard : Inventory) (answered : List Answered) (done : BaysDone) (text : List ℕ) → AreKept answered done → IsTextAfter separator yard done.plans.items text → IsYardTextAfter separator yard answered text
+after_kept separator yard answered done text kept is = subst (λ (plans : List BayPlan). IsTextAfter separator yard plans text) kept.plans is
 
 end_is : (answered : List Answered) (done : BaysDone) (text : List ℕ) → AreKept answered done → end_pieces done.bays done.decided text ≡ end_pieces (length answered) (decided answered) text
 end_is answered done text kept = ap (λ n. end_pieces n done.decided text) kept.bays ∙ ap (λ n. end_pieces (length answered) n text) kept.decided
 
 -- the end was not
-pub run_stops_at_end : (chosen : Chosen) (yard : Inventory) (first : List ℕ) (problems : List BayProblem) (a b c d : Sinks) (done : BaysDone) (f : Fault)
-    → Writes (piece output.Report first ∷ []) a b → WritesBays chosen problems b c done → StopsEnd yard done c d f → StopsRun chosen yard first problems a d f
-run_stops_at_end chosen yard first problems a b c d done f got (answered, true_answers, (bays, are, took), kept) (text, after, stop) =
+pub run_stops_at_end : (separator : ℕ) (chosen : Chosen) (yard : Inventory) (first : List ℕ) (problems : List BayProblem) (a b c d : Sinks) (done : BaysDone) (f : Fault)
+    → Writes (piece output.Report first ∷ []) a b → WritesBays chosen problems b c done → StopsEnd separator yard done c d f → StopsRun separator chosen yard first problems a d f
+run_stops_at_end separator chosen yard first problems a b c d done f got (answered, true_answers, (bays, are, took), kept) (text, after, stop) =
     let end : List Piece = end_pieces (length answered) (decided answered) text in
     let here : StopsWith end c d f = subst (λ (l : List Piece). StopsWith l c d f) (end_is answered done text kept) stop in (
       answered,
       piece output.Report first ∷ (bays ++ end),
-      run_pieces chosen yard first text problems answered bays true_answers are (after_kept yard answered done text kept after),
+      run_pieces separator chosen yard first text problems answered bays true_answers are (after_kept separator yard answered done text kept after),
       stops_behind (piece output.Report first ∷ []) (bays ++ end) a b d f got (stops_behind bays end b c d f took here),
     )
 
 -- all was written
-pub run_written : (chosen : Chosen) (yard : Inventory) (first : List ℕ) (problems : List BayProblem) (a b c d : Sinks) (done : BaysDone)
-    → Writes (piece output.Report first ∷ []) a b → WritesBays chosen problems b c done → WritesEnd yard done c d
-    → (answered : List Answered) × WritesRun chosen yard first problems a d answered × (done.status ≡ status_of_all answered)
-run_written chosen yard first problems a b c d done got (answered, true_answers, (bays, are, took), kept) (text, after, rest) =
+pub run_written : (separator : ℕ) (chosen : Chosen) (yard : Inventory) (first : List ℕ) (problems : List BayProblem) (a b c d : Sinks) (done : BaysDone)
+    → Writes (piece output.Report first ∷ []) a b → WritesBays chosen problems b c done → WritesEnd separator yard done c d
+    → (answered : List Answered) × WritesRun separator chosen yard first problems a d answered × (done.status ≡ status_of_all answered)
+run_written separator chosen yard first problems a b c d done got (answered, true_answers, (bays, are, took), kept) (text, after, rest) =
     let end : List Piece = end_pieces (length answered) (decided answered) text in
     let here : Writes end c d = subst (λ (l : List Piece). Writes l c d) (end_is answered done text kept) rest in (
       answered,
       (
         piece output.Report first ∷ (bays ++ end),
-        run_pieces chosen yard first text problems answered bays true_answers are (after_kept yard answered done text kept after),
+        run_pieces separator chosen yard first text problems answered bays true_answers are (after_kept separator yard answered done text kept after),
         gets_then (piece output.Report first ∷ []) (bays ++ end) 0 a b d got (gets_then bays end 0 b c d took here),
       ),
       kept.status,
@@ -216,8 +216,8 @@ pub record AreAccepted (chosen : RunChosen) (s : RunSeen) (list message : List �
   pub ordered : AreOrders chosen.input.loading message orders
   pub in_sequence : IsSequenceOf chosen.input.mode chosen.input.bays yard orders.list sequence
 
-abbrev AreOfRun : RunChosen → Inventory → LoadOrders → List (List ℕ) → List Answered → List Piece → Type 0
-AreOfRun chosen yard orders sequence answered pieces = AreRunPieces chosen.search yard (first_line yard orders sequence) (problems_of yard sequence) answered pieces
+abbrev AreOfRun : ℕ → RunChosen → Inventory → LoadOrders → List (List ℕ) → List Answered → List Piece → Type 0
+AreOfRun separator chosen yard orders sequence answered pieces = AreRunPieces separator chosen.search yard (first_line yard orders sequence) (problems_of yard sequence) answered pieces
 
 abbrev made : (list message : List ℕ) (yard : Inventory) (orders : LoadOrders) (sequence : List (List ℕ)) (answered : List Answered) (pieces : List Piece) (text : List ℕ) → Made
 made list message yard orders sequence answered pieces text = record {
@@ -233,7 +233,7 @@ made list message yard orders sequence answered pieces text = record {
 }
 
 is_made : (chosen : RunChosen) (s : RunSeen) (list message : List ℕ) (yard : Inventory) (orders : LoadOrders) (sequence : List (List ℕ)) (answered : List Answered) (pieces : List Piece)
-    → AreAccepted chosen s list message yard orders sequence → (are : AreOfRun chosen yard orders sequence answered pieces) → IsMade chosen s (made list message yard orders sequence answered pieces are.text)
+    → AreAccepted chosen s list message yard orders sequence → (are : AreOfRun s.separator chosen yard orders sequence answered pieces) → IsMade chosen s (made list message yard orders sequence answered pieces are.text)
 is_made chosen s list message yard orders sequence answered pieces accepted are =
     let (bays, of_bays, is) = are.are in
     record {
@@ -248,9 +248,9 @@ is_made chosen s list message yard orders sequence answered pieces accepted are 
       yard_after = are.after;
     }
 
-made_up : (chosen : RunChosen) (list message : List ℕ) (yard : Inventory) (orders : LoadOrders) (sequence : List (List ℕ)) (answered : List Answered) (pieces : List Piece)
-    → (are : AreOfRun chosen yard orders sequence answered pieces) → AreMadePieces (made list message yard orders sequence answered pieces are.text) pieces
-made_up chosen list message yard orders sequence answered pieces are =
+made_up : (chosen : RunChosen) (s : RunSeen) (list message : List ℕ) (yard : Inventory) (orders : LoadOrders) (sequence : List (List ℕ)) (answered : List Answered) (pieces : List Piece)
+    → (are : AreOfRun s.separator chosen yard orders sequence answered pieces) → AreMadePieces (made list message yard orders sequence answered pieces are.text) pieces
+made_up chosen s list message yard orders sequence answered pieces are =
     let (bays, of_bays, is) = are.are in (
       are.are,
       each_sink (λ each. bytes_for each pieces ≡ text_for (made list message yard orders sequence answered pieces are.text) each) refl refl
@@ -286,11 +286,11 @@ failed_of s p q output.YardAfter failed = failed
 
 pub run_done : (chosen : RunChosen) (s : RunSeen) (p q : ℕ) (list message : List ℕ) (yard : Inventory) (orders : LoadOrders) (sequence : List (List ℕ)) (status : Status) (answered : List Answered)
     → AreAccepted chosen s list message yard orders sequence
-    → WritesRun chosen.search yard (first_line yard orders sequence) (problems_of yard sequence) (sinks_before s p) (sinks_after s q) answered → status ≡ status_of_all answered
+    → WritesRun s.separator chosen.search yard (first_line yard orders sequence) (problems_of yard sequence) (sinks_before s p) (sinks_after s q) answered → status ≡ status_of_all answered
     → WritesTexts chosen s status
 run_done chosen s p q list message yard orders sequence status answered accepted (pieces, are, get) is =
     let m : Made = made list message yard orders sequence answered pieces are.text in
-    let up = made_up chosen list message yard orders sequence answered pieces are in
+    let up = made_up chosen s list message yard orders sequence answered pieces are in
     let got = seen_of s p q pieces 0 get in (
       m,
       is_made chosen s list message yard orders sequence answered pieces accepted are,
@@ -302,10 +302,10 @@ run_done chosen s p q list message yard orders sequence status answered accepted
 
 pub run_stopped : (chosen : RunChosen) (s : RunSeen) (p q : ℕ) (list message : List ℕ) (yard : Inventory) (orders : LoadOrders) (sequence : List (List ℕ)) (f : Fault)
     → AreAccepted chosen s list message yard orders sequence
-    → StopsRun chosen.search yard (first_line yard orders sequence) (problems_of yard sequence) (sinks_before s p) (sinks_after s q) f → RunFailsWith chosen s f
+    → StopsRun s.separator chosen.search yard (first_line yard orders sequence) (problems_of yard sequence) (sinks_before s p) (sinks_after s q) f → RunFailsWith chosen s f
 run_stopped chosen s p q list message yard orders sequence (fault.Write sink) accepted (answered, pieces, are, (stop, wanted_is, to, get, failed)) =
     let m : Made = made list message yard orders sequence answered pieces are.text in
-    let up : AreMadePieces m (wanted stop) = subst (AreMadePieces m) wanted_is (made_up chosen list message yard orders sequence answered pieces are) in
+    let up : AreMadePieces m (wanted stop) = subst (AreMadePieces m) wanted_is (made_up chosen s list message yard orders sequence answered pieces are) in
     let got = seen_of s p q (written stop) 1 get in (
       (
         m,
@@ -318,7 +318,7 @@ run_stopped chosen s p q list message yard orders sequence (fault.Write sink) ac
     )
 run_stopped chosen s p q list message yard orders sequence fault.Memory accepted (answered, pieces, are, (done, behind, is, get)) =
     let m : Made = made list message yard orders sequence answered pieces are.text in
-    let up : AreMadePieces m (done ++ behind) = subst (AreMadePieces m) is (made_up chosen list message yard orders sequence answered pieces are) in
+    let up : AreMadePieces m (done ++ behind) = subst (AreMadePieces m) is (made_up chosen s list message yard orders sequence answered pieces are) in
     let got = seen_of s p q done 0 get in
     inr (
       m,
@@ -344,31 +344,31 @@ counts : (s : RunSeen) (p q n : ℕ) (pieces : List Piece) → SinksGet pieces n
 counts s p q n pieces get =
     record { counted = get.counted; report = get.grown output.Report; certificates = get.grown output.Certificates; yard_after = get.grown output.YardAfter; few = get.few }
 
-pub done_counted : (chosen : Chosen) (yard : Inventory) (first : List ℕ) (problems : List BayProblem) (s : RunSeen) (p q : ℕ) (answered : List Answered)
-    → WritesRun chosen yard first problems (sinks_before s p) (sinks_after s q) answered → AreSinksCounted s p q 0
-done_counted chosen yard first problems s p q answered (pieces, are, get) = counts s p q 0 pieces get
+pub done_counted : (separator : ℕ) (chosen : Chosen) (yard : Inventory) (first : List ℕ) (problems : List BayProblem) (s : RunSeen) (p q : ℕ) (answered : List Answered)
+    → WritesRun separator chosen yard first problems (sinks_before s p) (sinks_after s q) answered → AreSinksCounted s p q 0
+done_counted separator chosen yard first problems s p q answered (pieces, are, get) = counts s p q 0 pieces get
 
-pub stopped_counted : (chosen : Chosen) (yard : Inventory) (first : List ℕ) (problems : List BayProblem) (s : RunSeen) (p q : ℕ) (f : Fault)
-    → StopsRun chosen yard first problems (sinks_before s p) (sinks_after s q) f → AreSinksCounted s p q (failures_of_fault f)
-stopped_counted chosen yard first problems s p q (fault.Write sink) (answered, pieces, are, (stop, wanted_is, to, get, failed)) = counts s p q 1 (written stop) get
-stopped_counted chosen yard first problems s p q fault.Memory (answered, pieces, are, (done, behind, is, get)) = counts s p q 0 done get
-stopped_counted chosen yard first problems s p q (fault.Yard f) (answered, pieces, are, none) = absurd none
-stopped_counted chosen yard first problems s p q (fault.Interchange f) (answered, pieces, are, none) = absurd none
-stopped_counted chosen yard first problems s p q (fault.Message f) (answered, pieces, are, none) = absurd none
-stopped_counted chosen yard first problems s p q (fault.Read source) (answered, pieces, are, none) = absurd none
+pub stopped_counted : (separator : ℕ) (chosen : Chosen) (yard : Inventory) (first : List ℕ) (problems : List BayProblem) (s : RunSeen) (p q : ℕ) (f : Fault)
+    → StopsRun separator chosen yard first problems (sinks_before s p) (sinks_after s q) f → AreSinksCounted s p q (failures_of_fault f)
+stopped_counted separator chosen yard first problems s p q (fault.Write sink) (answered, pieces, are, (stop, wanted_is, to, get, failed)) = counts s p q 1 (written stop) get
+stopped_counted separator chosen yard first problems s p q fault.Memory (answered, pieces, are, (done, behind, is, get)) = counts s p q 0 done get
+stopped_counted separator chosen yard first problems s p q (fault.Yard f) (answered, pieces, are, none) = absurd none
+stopped_counted separator chosen yard first problems s p q (fault.Interchange f) (answered, pieces, are, none) = absurd none
+stopped_counted separator chosen yard first problems s p q (fault.Message f) (answered, pieces, are, none) = absurd none
+stopped_counted separator chosen yard first problems s p q (fault.Read source) (answered, pieces, are, none) = absurd none
 
 -- how a run over accepted input ends, from how its writing does
 pub run_ended : (r : Result Status Fault) (chosen : RunChosen) (s : RunSeen) (one p q : ℕ) (list message : List ℕ) (yard : Inventory) (orders : LoadOrders) (sequence : List (List ℕ)) (first : List ℕ)
     (problems : List BayProblem) → AreAccepted chosen s list message yard orders sequence → first ≡ first_line yard orders sequence → problems ≡ problems_of yard sequence
     → AreFailuresCounted 0 s.yard.before s.yard.after 0 one → AreFailuresCounted 0 s.movins.before s.movins.after one p → s.movins.before ≤ s.movins.after
-    → MatchResult r (λ status. (answered : List Answered) × WritesRun chosen.search yard first problems (sinks_before s p) (sinks_after s q) answered × (status ≡ status_of_all answered))
-    (StopsRun chosen.search yard first problems (sinks_before s p) (sinks_after s q))
+    → MatchResult r (λ status. (answered : List Answered) × WritesRun s.separator chosen.search yard first problems (sinks_before s p) (sinks_after s q) answered × (status ≡ status_of_all answered))
+    (StopsRun s.separator chosen.search yard first problems (sinks_before s p) (sinks_after s q))
     → MatchResult r (RunEnds chosen s) (RunFails chosen s)
 run_ended (Ok status) chosen s one p q list message yard orders sequence first problems accepted first_is problems_are of_list of_message grown (answered, written, is) =
     let here = rw (first_is, problems_are) at written in
-    let k = done_counted chosen.search yard (first_line yard orders sequence) (problems_of yard sequence) s p q answered here in
+    let k = done_counted s.separator chosen.search yard (first_line yard orders sequence) (problems_of yard sequence) s p q answered here in
     (run_done chosen s p q list message yard orders sequence status answered accepted here is, omega (arith, of_list, of_message, grown, k.counted, k.report, k.certificates, k.yard_after, k.few))
 run_ended (Err f) chosen s one p q list message yard orders sequence first problems accepted first_is problems_are of_list of_message grown stops =
     let here = rw (first_is, problems_are) at stops in
-    let k = stopped_counted chosen.search yard (first_line yard orders sequence) (problems_of yard sequence) s p q f here in
+    let k = stopped_counted s.separator chosen.search yard (first_line yard orders sequence) (problems_of yard sequence) s p q f here in
     (run_stopped chosen s p q list message yard orders sequence f accepted here, omega (arith, of_list, of_message, grown, k.counted, k.report, k.certificates, k.yard_after, k.few))

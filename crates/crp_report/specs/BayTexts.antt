@@ -1,5 +1,5 @@
 -- How a run states what went wrong in a layer below, and the texts that it keeps of a bay. Only private clauses speak of it.
-use Rattle.std.specs.Prelude.{◌≡◌, ◌≢◌, ℕ, ◌+◌, ◌≤◌, List, Option, Some}
+use Rattle.std.specs.Prelude.{◌≡◌, ◌≢◌, ℕ, ◌+◌, ◌≤◌, List, Option, Some, flat_map}
 use Rattle.crp_plan.specs.Devices.{HasFailed}
 use Rattle.crp_sizes.specs.Sizes.{YardSizes}
 use Rattle.crp_yard.specs.declared.fault.YardFault.{YardFault}
@@ -71,4 +71,4 @@ IsNoMessage loading given before after f = ⊥
 -- these are the texts of an answered bay
 pub record AreTextsOfBay (bay : Answered) (t : BayTexts) : Type 0 where
   pub report : AreBayLines bay t.report.items
-  pub certificate : t.certificate.items ≡ certificate_of bay
+  pub certificate : flat_map (λ share. share.items) t.certificate.items ≡ certificate_of bay

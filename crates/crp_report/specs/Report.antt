@@ -10,6 +10,7 @@ use Rattle.crp_cert.specs.Writing.{certificate_text, first_certificate_text}
 use Rattle.crp_yard.specs.Inventory.{Inventory}
 use Rattle.crp_yard.specs.After.{IsAfter}
 use Rattle.crp_yard.specs.Text.{yard_text}
+use Rattle.crp_separated.specs.Inputs.{with_separator}
 use Rattle.crp_said.specs.declared.numbers.Numbers.{Numbers}
 use Rattle.crp_said.specs.Said.{counts_line, bay_line, bays_line}
 use Rattle.crp_said.specs.MoveLines.{AreMoveLines}
@@ -64,6 +65,6 @@ certificate_of bay = text_of bay.stated.bay bay.stated.problem bay.solved.answer
 abbrev pub certificates_text : List Answered → List ℕ
 certificates_text answered = flat_map certificate_of answered
 
--- the text of the yard as the plans leave it
-abbrev pub IsYardTextAfter : Inventory → List Answered → List ℕ → Type 0
-IsYardTextAfter yard answered text = (after : Inventory) × IsAfter yard (bay_plans answered) after × (text ≡ yard_text after)
+-- the text of the yard as the plans leave it, with this byte between fields
+abbrev pub IsYardTextAfter : ℕ → Inventory → List Answered → List ℕ → Type 0
+IsYardTextAfter separator yard answered text = (after : Inventory) × IsAfter yard (bay_plans answered) after × (text ≡ with_separator separator (yard_text after))

@@ -51,13 +51,14 @@ source_seen remaining failures old new = record { given = remaining old; before 
 abbrev pub sink_seen : {S : Type 0} → (S → Option (List ℕ)) → (S → ℕ) → S → S → SinkSeen
 sink_seen contents failures old new = record { held = contents old; holds = contents new; before = failures old; after = failures new }
 
--- what a run saw of its two sources and three sinks
+-- what a run saw of its two sources and three sinks, and the byte between the fields of the yard after
 pub record RunSeen : Type 0 where
   pub yard : SourceSeen
   pub movins : SourceSeen
   pub report : SinkSeen
   pub certificates : SinkSeen
   pub yard_after : SinkSeen
+  pub separator : ℕ
 
 -- the text is a yard list, of bays of the chosen sizes
 abbrev pub IsListed : RunChosen → List ℕ → Inventory → Type 0
@@ -100,7 +101,7 @@ pub record IsMade (chosen : RunChosen) (s : RunSeen) (m : Made) : Type 0 where
   pub true_answers : AreTrueAnswers chosen.search (problems_of m.yard m.sequence) m.answered
   pub report : IsReport (numbers_of m.yard m.orders m.sequence) m.answered m.report
   pub certificates : m.certificates ≡ certificates_text m.answered
-  pub yard_after : IsYardTextAfter m.yard m.answered m.yard_after
+  pub yard_after : IsYardTextAfter s.separator m.yard m.answered m.yard_after
 
 -- the sink got this text, and nothing else
 abbrev pub Gets : SinkSeen → List ℕ → Type 0

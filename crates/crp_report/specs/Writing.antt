@@ -5,6 +5,7 @@ use Rattle.crp_plan.specs.Devices.{HasFailed, most_interruptions}
 use Rattle.crp_yard.specs.Inventory.{Inventory}
 use Rattle.crp_yard.specs.After.{IsAfter}
 use Rattle.crp_yard.specs.Text.{yard_text}
+use Rattle.crp_separated.specs.Inputs.{with_separator}
 use Rattle.crp_yard.specs.declared.bay_plan.BayPlan.{BayPlan}
 use Rattle.crp_order.specs.declared.bay_problem.BayProblem.{BayProblem}
 use Rattle.crp_said.specs.Said.{bays_line}
@@ -114,30 +115,30 @@ pub record AreKept (answered : List Answered) (kept : BaysDone) : Type 0 where
 abbrev pub WritesBays : Chosen → List BayProblem → Sinks → Sinks → BaysDone → Type 0
 WritesBays chosen problems before after kept = (answered : List Answered) × AreTrueAnswers chosen problems answered × WritesAnswers answered before after × AreKept answered kept
 
--- the text of the yard as these plans leave it
-abbrev pub IsTextAfter : Inventory → List BayPlan → List ℕ → Type 0
-IsTextAfter yard plans text = (left : Inventory) × IsAfter yard plans left × (text ≡ yard_text left)
+-- the text of the yard as these plans leave it, with this byte between fields
+abbrev pub IsTextAfter : ℕ → Inventory → List BayPlan → List ℕ → Type 0
+IsTextAfter separator yard plans text = (left : Inventory) × IsAfter yard plans left × (text ≡ with_separator separator (yard_text left))
 
 -- the last two pieces: the line that counts the bays, and the yard after
 abbrev pub end_pieces : ℕ → ℕ → List ℕ → List Piece
 end_pieces bays decided yard_after = piece output.Report (bays_line bays decided) ∷ piece output.YardAfter yard_after ∷ []
 
-abbrev pub WritesEnd : Inventory → BaysDone → Sinks → Sinks → Type 0
-WritesEnd yard kept before after = (text : List ℕ) × IsTextAfter yard kept.plans.items text × Writes (end_pieces kept.bays kept.decided text) before after
+abbrev pub WritesEnd : ℕ → Inventory → BaysDone → Sinks → Sinks → Type 0
+WritesEnd separator yard kept before after = (text : List ℕ) × IsTextAfter separator yard kept.plans.items text × Writes (end_pieces kept.bays kept.decided text) before after
 
-abbrev pub StopsEnd : Inventory → BaysDone → Sinks → Sinks → Fault → Type 0
-StopsEnd yard kept before after f = (text : List ℕ) × IsTextAfter yard kept.plans.items text × StopsWith (end_pieces kept.bays kept.decided text) before after f
+abbrev pub StopsEnd : ℕ → Inventory → BaysDone → Sinks → Sinks → Fault → Type 0
+StopsEnd separator yard kept before after f = (text : List ℕ) × IsTextAfter separator yard kept.plans.items text × StopsWith (end_pieces kept.bays kept.decided text) before after f
 
--- the pieces of a run with this first line over the problems of a yard
-pub record AreRunPieces (chosen : Chosen) (yard : Inventory) (first : List ℕ) (problems : List BayProblem) (answered : List Answered) (pieces : List Piece) : Type 0 where
+-- the pieces of a run with this first line over the problems of a yard, and with this byte between the fields of the yard after
+pub record AreRunPieces (separator : ℕ) (chosen : Chosen) (yard : Inventory) (first : List ℕ) (problems : List BayProblem) (answered : List Answered) (pieces : List Piece) : Type 0 where
   pub true_answers : AreTrueAnswers chosen problems answered
   pub text : List ℕ
-  pub after : IsYardTextAfter yard answered text
+  pub after : IsYardTextAfter separator yard answered text
   pub are : ArePieces first answered text pieces
 
-abbrev pub WritesRun : Chosen → Inventory → List ℕ → List BayProblem → Sinks → Sinks → List Answered → Type 0
-WritesRun chosen yard first problems before after answered = (pieces : List Piece) × AreRunPieces chosen yard first problems answered pieces × Writes pieces before after
+abbrev pub WritesRun : ℕ → Chosen → Inventory → List ℕ → List BayProblem → Sinks → Sinks → List Answered → Type 0
+WritesRun separator chosen yard first problems before after answered = (pieces : List Piece) × AreRunPieces separator chosen yard first problems answered pieces × Writes pieces before after
 
-abbrev pub StopsRun : Chosen → Inventory → List ℕ → List BayProblem → Sinks → Sinks → Fault → Type 0
-StopsRun chosen yard first problems before after f =
-    (answered : List Answered) × (pieces : List Piece) × AreRunPieces chosen yard first problems answered pieces × StopsWith pieces before after f
+abbrev pub StopsRun : ℕ → Chosen → Inventory → List ℕ → List BayProblem → Sinks → Sinks → Fault → Type 0
+StopsRun separator chosen yard first problems before after f =
+    (answered : List Answered) × (pieces : List Piece) × AreRunPieces separator chosen yard first problems answered pieces × StopsWith pieces before after f

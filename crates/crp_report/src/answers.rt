@@ -1,5 +1,6 @@
 //! Answers to the problems of bays.
 ghost use Rattle.std.specs.Prelude.{◌≡◌, IfOk};
+ghost use Rattle.std.specs.List.{flat_map};
 ghost use Rattle.crp_report.specs.Answered.{said_by, status_of};
 ghost use Rattle.crp_report.specs.Report.{text_of};
 
@@ -77,7 +78,7 @@ pub fn certificate_of(
     }
 }
 
-/// The same text, which so many workers write, or one of them where it is short.
+/// The shares of the same text, which so many workers write, or one of them where it is short.
 pub fn certificate_by<T: Threads + Sync>(
     rt: &T,
     alloc: Global,
@@ -85,8 +86,8 @@ pub fn certificate_by<T: Threads + Sync>(
     bay: &BayName,
     problem: &Problem,
     answer: &Answer,
-) -> Result<Vec<u8>, AllocError>
-    ensures { IfOk result (λ text. text.items ≡ text_of bay.now problem.now answer.now) }
+) -> Result<Vec<Vec<u8>>, AllocError>
+    ensures { IfOk result (λ shares. flat_map (λ share. share.items) shares.items ≡ text_of bay.now problem.now answer.now) }
 {
     let workers = workers as usize;
     match answer {

@@ -4,6 +4,7 @@ ghost use Rattle.crp_report.specs.Report.{AreBayLines};
 ghost use Rattle.crp_report.specs.BayTexts.{AreTextsOfBay};
 
 use crate::answers::{certificate_by, certificate_of, said_of};
+use crate::by_workers::as_share;
 use crate::lines::answer_lines;
 use crp_order::BayProblem;
 use crp_said::{names_of, push_bay_line};
@@ -16,8 +17,8 @@ use std::thread::Threads;
 pub(crate) struct BayTexts {
     /// Its lines of the report.
     pub report: Vec<u8>,
-    /// Its certificate.
-    pub certificate: Vec<u8>,
+    /// The shares of its certificate.
+    pub certificate: Vec<Vec<u8>>,
 }
 
 // The lines of a bay.
@@ -42,7 +43,8 @@ pub(crate) fn texts_of_bay(
     ensures { IfOk result (AreTextsOfBay (record { stated = bay.now; solved = solved.now })) }
 {
     let report = bay_lines(alloc, bay, solved)?;
-    let certificate = certificate_of(alloc, &bay.bay, &bay.problem, &solved.answer)?;
+    let text = certificate_of(alloc, &bay.bay, &bay.problem, &solved.answer)?;
+    let certificate = as_share(alloc, text)?;
     Ok(BayTexts {
         report,
         certificate,

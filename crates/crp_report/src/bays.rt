@@ -16,7 +16,7 @@ use crate::ready::Ready;
 use crate::shelf::Shelf;
 use crate::timing::{Clock, Timer};
 use crate::watching::Watch;
-use crate::writing::{RunSinks, write_piece};
+use crate::writing::{RunSinks, bytes_of, write_certificate, write_piece};
 use crp_incumbent::Board;
 use crp_order::BayProblem;
 use crp_plan::Sink;
@@ -82,8 +82,9 @@ fn write_bay<
 {
     let found = answer(rt, alloc, timer, bay, ready, settings, watch)?;
     write_piece(sinks, Output::Report, &found.texts.report)?;
-    write_piece(sinks, Output::Certificates, &found.texts.certificate)?;
-    watch.answers(alloc, bay, &found.solved, &found.texts.certificate, errors);
+    let certificate = found.texts.certificate.as_slice();
+    write_certificate(sinks, certificate)?;
+    watch.answers(alloc, bay, &found.solved, bytes_of(certificate), errors);
     Ok(found.solved)
 }
 

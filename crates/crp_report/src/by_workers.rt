@@ -1,4 +1,4 @@
-//! The text of a certificate, the lines of whose parts are written by several workers.
+//! The text of a certificate, the lines of whose parts are written by several workers: each writes a share of it, and no share is copied.
 ghost use Rattle.std.specs.Prelude.{◌≡◌, ◌≤◌, ◌++◌, length, IfOk};
 ghost use Rattle.std.specs.List.{flat_map};
 ghost use Rattle.std.specs.Option.{option_copied};
@@ -36,7 +36,16 @@ fn reach(parts: &[Part], most: usize) -> (usize, usize)
     (symbols, parts.len())
 }
 
-// Adds the lines of parts to a text, by so many workers.
+// A text as one share.
+pub(crate) fn as_share(alloc: Global, text: Vec<u8>) -> Result<Vec<Vec<u8>>, AllocError>
+    ensures { IfOk result (λ shares. flat_map (λ share. share.items) shares.items ≡ text.items) }
+{
+    let mut shares = Vec::new(alloc);
+    shares.push(text).map_err(AllocError::from)?;
+    Ok(shares)
+}
+
+// The shares of a text behind which lines of parts are added, by so many workers.
 #[tactic(auto, using(std::proofs::lemmas::Grind::common_steps))]
 fn with_parts<T: Threads + Sync>(
     rt: &T,
@@ -44,13 +53,13 @@ fn with_parts<T: Threads + Sync>(
     workers: usize,
     mut text: Vec<u8>,
     parts: &[Part],
-) -> Result<Vec<u8>, AllocError>
-    ensures { IfOk result (λ all. all.items ≡ text.items ++ flat_map (λ part. part_line (part_of part)) parts.now) }
+) -> Result<Vec<Vec<u8>>, AllocError>
+    ensures { IfOk result (λ all. flat_map (λ share. share.items) all.items ≡ text.items ++ flat_map (λ part. part_line (part_of part)) parts.now) }
 {
     let (symbols, _all) = reach(parts, usize::MAX);
     if workers < 2 || parts.len() < 2 || symbols < LEAST {
         push_parts(&mut text, parts)?;
-        return Ok(text);
+        return as_share(alloc, text);
     }
     let others = workers / 2;
     let own = workers - others;
@@ -58,21 +67,21 @@ fn with_parts<T: Threads + Sync>(
     let (left, right) = parts.split_at(middle);
     let (behind, before) = thread::join(
         rt,
-        move || -> Result<Vec<u8>, AllocError>
+        move || -> Result<Vec<Vec<u8>>, AllocError>
             requires { IsSync T.row }
-            ensures { IfOk result (λ all. all.items ≡ flat_map (λ part. part_line (part_of part)) right.entry.now) }
+            ensures { IfOk result (λ all. flat_map (λ share. share.items) all.items ≡ flat_map (λ part. part_line (part_of part)) right.entry.now) }
         { with_parts(rt, alloc, others, Vec::new(alloc), right) },
-        move || -> Result<Vec<u8>, AllocError>
+        move || -> Result<Vec<Vec<u8>>, AllocError>
             requires { IsSync T.row }
-            ensures { IfOk result (λ all. all.items ≡ text.items ++ flat_map (λ part. part_line (part_of part)) left.entry.now) }
+            ensures { IfOk result (λ all. flat_map (λ share. share.items) all.items ≡ text.items ++ flat_map (λ part. part_line (part_of part)) left.entry.now) }
         { with_parts(rt, alloc, own, text, left) },
     );
     let mut all = before?;
-    all.extend_from_slice(&behind?)?;
+    all.append(&mut behind?)?;
     Ok(all)
 }
 
-/// The text of a certificate of a problem under a claim, with a plan or none. So many workers write it, one of them alone where it is short.
+/// The shares of the text of a certificate of a problem under a claim, with a plan or none. So many workers write it, one of them alone where it is short.
 pub(crate) fn text_by<T: Threads + Sync>(
     rt: &T,
     alloc: Global,
@@ -82,12 +91,14 @@ pub(crate) fn text_by<T: Threads + Sync>(
     cert: &Cert,
     claim: Claim,
     plan: Option<&Plan>,
-) -> Result<Vec<u8>, AllocError>
-    ensures { IfOk result (λ text. text.items ≡ text_under bay.now problem.now cert.now claim (option_copied plan.entry)) }
+) -> Result<Vec<Vec<u8>>, AllocError>
+    ensures { IfOk result (λ shares. flat_map (λ share. share.items) shares.items ≡ text_under bay.now problem.now cert.now claim (option_copied plan.entry)) }
 {
     let mut text = Vec::new(alloc);
     push_head(&mut text, bay, problem, cert, claim, plan)?;
-    let mut lines = with_parts(rt, alloc, workers, text, cert.parts())?;
-    push_end(&mut lines, cert)?;
-    Ok(lines)
+    let mut shares = with_parts(rt, alloc, workers, text, cert.parts())?;
+    let mut end = Vec::new(alloc);
+    push_end(&mut end, cert)?;
+    shares.push(end).map_err(AllocError::from)?;
+    Ok(shares)
 }

@@ -39,3 +39,4 @@ pub use settings::{InputSettings, RunFault, RunSettings};
 pub use status::Status;
 pub use timing::{Clock, NoClock, Timed, Timer, end_of};
 pub use watching::{Unwatched, Watch, show};
+pub use writing::write_shares;

@@ -3,6 +3,7 @@ ghost use Rattle.std.specs.Prelude.{◌≡◌};
 ghost use Rattle.crp_report.specs.Looks.{IsReadyAt};
 
 use crate::ready::Ready;
+use crate::writing::bytes_of;
 use std::marker::{Brand, Model, PhantomData};
 
 /// The bays of a run, and what was chosen for it. Who has workers look at them picks that, by the type `Brand`.
@@ -66,7 +67,7 @@ impl<Y: Posed> Look<Y> {
 
     /// How many bytes the certificate has.
     pub(crate) fn bytes(&self) -> usize {
-        self.ready.texts.certificate.len()
+        bytes_of(&self.ready.texts.certificate)
     }
 
     /// The answer.

@@ -26,6 +26,7 @@ use crp_movins::Orders;
 use crp_order::{BayProblem, Sequence, problems, sequence_of_bays};
 use crp_plan::{Nowhere, Sink, Source};
 use crp_said::{last_text, numbers_text};
+use crp_separated::with_separator;
 use crp_solve::Settings;
 use crp_yard::{BayPlan, Yard, after, yard_text};
 use std::alloc::{AllocError, Global};
@@ -73,19 +74,26 @@ fn work_of(
     })
 }
 
-// The yard list after the plans.
-fn text_after(alloc: Global, yard: &Yard, plans: &[BayPlan]) -> Result<Vec<u8>, AllocError>
+// The yard list after the plans, with this byte between fields.
+fn text_after(
+    alloc: Global,
+    separator: u8,
+    yard: &Yard,
+    plans: &[BayPlan],
+) -> Result<Vec<u8>, AllocError>
     requires plans { All (IsPlanForBay yard.now) plans.now }
     requires once { IsDistinct same_bay (map (λ plan. plan.bay) plans.now) }
-    ensures { IfOk result (λ text. IsTextAfter yard.now plans.now text.items) }
+    ensures { IfOk result (λ text. IsTextAfter separator yard.now plans.now text.items) }
 {
     let left = after(alloc, yard, plans)?;
-    yard_text(alloc, &left)
+    let list = yard_text(alloc, &left)?;
+    with_separator(alloc, list, separator)
 }
 
-// Writes what stands behind the bays: the line that counts them, and the yard after.
+// Writes what stands behind the bays: the line that counts them, and the yard after, with this byte between fields.
 fn write_end<W: Sink, C: Sink, A: Sink>(
     alloc: Global,
+    separator: u8,
     yard: &Yard,
     done: &BaysDone,
     sinks: &mut RunSinks<'_, '_, W, C, A>,
@@ -97,15 +105,15 @@ fn write_end<W: Sink, C: Sink, A: Sink>(
     ensures same { AreSameSinks sinks.old sinks.new }
     ensures written { let before : Sinks = sinks_of W.contents W.failures C.contents C.failures A.contents A.failures sinks.old in
         let after : Sinks = sinks_of W.contents W.failures C.contents C.failures A.contents A.failures sinks.new in
-        MatchResult result (λ _. WritesEnd yard.now done.now before after) (StopsEnd yard.now done.now before after) }
+        MatchResult result (λ _. WritesEnd separator yard.now done.now before after) (StopsEnd separator yard.now done.now before after) }
 {
     let last = last_text(alloc, done.bays, done.decided)?;
-    let yard_after = text_after(alloc, yard, &done.plans)?;
+    let yard_after = text_after(alloc, separator, yard, &done.plans)?;
     write_piece(sinks, Output::Report, &last)?;
     write_piece(sinks, Output::YardAfter, &yard_after)
 }
 
-// Writes the first line, bay by bay what is stated of it, and the end.
+// Writes the first line, bay by bay what is stated of it, and the end, with this byte between the fields of the yard after.
 fn write_run<
     T: Threads + Wait + Sync,
     K: Clock + Sync,
@@ -120,6 +128,7 @@ fn write_run<
     timer: &Timer<'_, K>,
     work: Work,
     settings: Settings,
+    separator: u8,
     sinks: &mut RunSinks<'_, '_, W, C, A>,
     watch: &mut V,
     errors: &mut E,
@@ -131,8 +140,8 @@ fn write_run<
     ensures written { let before : Sinks = sinks_of W.contents W.failures C.contents C.failures A.contents A.failures sinks.old in
         let after : Sinks = sinks_of W.contents W.failures C.contents C.failures A.contents A.failures sinks.new in
         MatchResult result
-        (λ status. (answered : List Answered) × WritesRun settings work.yard work.first.items work.problems.items before after answered × (status ≡ status_of_all answered))
-        (StopsRun settings work.yard work.first.items work.problems.items before after) }
+        (λ status. (answered : List Answered) × WritesRun separator settings work.yard work.first.items work.problems.items before after answered × (status ≡ status_of_all answered))
+        (StopsRun separator settings work.yard work.first.items work.problems.items before after) }
     ensures shown { ShowsMore (E.contents errors.old) (E.contents errors.new) }
 {
     let Work {
@@ -143,11 +152,11 @@ fn write_run<
     } = work;
     write_piece(sinks, Output::Report, &first)?;
     let done = write_bays(rt, alloc, timer, problems, settings, sinks, watch, errors)?;
-    write_end(alloc, &yard, &done, sinks)?;
+    write_end(alloc, separator, &yard, &done, sinks)?;
     Ok(done.status)
 }
 
-/// The devices of a run beside the sink of its report: what is read, and where the certificates and the yard after the plans go.
+/// The devices of a run beside the sink of its report: what is read, where the certificates and the yard after the plans go, and how the last is written.
 #[derive(Drop)]
 pub struct Devices<Y, M, C, A> {
     /// The yard list.
@@ -158,6 +167,8 @@ pub struct Devices<Y, M, C, A> {
     pub certificates: C,
     /// Gets the yard list after the plans.
     pub yard_after: A,
+    /// The byte between the fields of that list.
+    pub separator: u8,
 }
 
 /// Reads a yard list and a message with load orders, answers the problem of each bay from which an ordered container leaves,
@@ -195,11 +206,13 @@ pub fn run_watched<
       report = sink_seen W.contents W.failures out.old out.new;
       certificates = sink_seen C.contents C.failures devices.old.certificates devices.new.certificates;
       yard_after = sink_seen A.contents A.failures devices.old.yard_after devices.new.yard_after;
+      separator = devices.old.separator;
     } in MatchResult result (RunEnds settings.now seen) (RunFails settings.now seen) }
     ensures shown { ShowsMore (E.contents errors.old) (E.contents errors.new) }
 {
     let timer = Timer::start(clock);
     let mut interruptions = 0;
+    let separator = devices.separator;
     let input = settings.input();
     let yard = yard_from(alloc, &mut devices.yard, input.sizes(), &mut interruptions)?;
     let Message { segments, orders } = message_from(
@@ -229,6 +242,7 @@ pub fn run_watched<
         &timer,
         work,
         settings.search(),
+        separator,
         &mut sinks,
         watch,
         errors,
@@ -251,6 +265,7 @@ pub fn run<T: Threads + Wait + Sync, Y: Source, M: Source, W: Sink, C: Sink, A: 
       report = sink_seen W.contents W.failures out.old out.new;
       certificates = sink_seen C.contents C.failures devices.old.certificates devices.new.certificates;
       yard_after = sink_seen A.contents A.failures devices.old.yard_after devices.new.yard_after;
+      separator = devices.old.separator;
     } in MatchResult result (RunEnds settings.now seen) (RunFails settings.now seen) }
 {
     run_watched(

@@ -43,13 +43,13 @@ pub trait Watch {
     /// The search of a bay has ended, and nothing of its answer is written yet.
     fn searched(&mut self) {}
 
-    /// A bay is answered, and its lines and this certificate are written.
+    /// A bay is answered, and its lines and its certificate of so many bytes are written.
     fn answers<E: Sink>(
         &mut self,
         alloc: Global,
         bay: &BayProblem,
         solved: &Solved,
-        certificate: &[u8],
+        bytes: usize,
         errors: &mut E,
     )
         ensures { ShowsMore (E.contents errors.old) (E.contents errors.new) };
@@ -113,7 +113,7 @@ impl Watch for Unwatched {
         _alloc: Global,
         _bay: &BayProblem,
         _solved: &Solved,
-        _certificate: &[u8],
+        _bytes: usize,
         _errors: &mut E,
     ) {}
 

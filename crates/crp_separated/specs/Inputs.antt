@@ -23,3 +23,7 @@ comma_list separator text = if separator == 44 then text else list_with separato
 -- what is known of it, where this is known of the list
 abbrev pub comma_list_of : ℕ → Option (List ℕ) → Option (List ℕ)
 comma_list_of separator known = option_map (comma_list separator) known
+
+-- the list with this byte between its fields that has the records of one with commas, which itself is as it is
+abbrev pub with_separator : ℕ → List ℕ → List ℕ
+with_separator separator list = if separator == 44 then list else list_with 44 separator list

@@ -103,7 +103,7 @@ impl Watch for Marks {
         _alloc: Global,
         _bay: &BayProblem,
         _solved: &Solved,
-        _certificate: &[u8],
+        _bytes: usize,
         errors: &mut E,
     ) {
         show(errors, b"answered\n");
@@ -144,6 +144,7 @@ fn the_first_bay_is_written_before_the_second_begins(rt: HostRuntime) -> Result<
         movins: movins.as_slice(),
         certificates: Nowhere,
         yard_after: Nowhere,
+        separator: b',',
     };
     let answer = run_watched(
         &rt,

@@ -49,6 +49,7 @@ fn with_slow<T: Threads + Wait + Sync>(
         },
         certificates: Nowhere,
         yard_after: Nowhere,
+        separator: b',',
     };
     Ok(run(rt, alloc, &mut devices, &settings, &mut Nowhere))
 }

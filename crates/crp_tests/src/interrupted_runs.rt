@@ -39,6 +39,7 @@ fn ended<T: Threads + Wait + Sync, Y: Source + Drop, M: Source + Drop>(
         movins,
         certificates: busy(interrupted[1]),
         yard_after: busy(interrupted[2]),
+        separator: b',',
     };
     Ok(run(
         rt,

@@ -51,6 +51,7 @@ fn ended<T: Threads + Wait + Sync, Y: Source + Drop, M: Source + Drop>(
         movins,
         certificates: small(alloc, rooms[1]),
         yard_after: small(alloc, rooms[2]),
+        separator: b',',
     };
     let answer = run(rt, alloc, &mut devices, &settings, &mut out);
     Ok(Texts {

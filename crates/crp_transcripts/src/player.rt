@@ -4,7 +4,7 @@ use crate::blocks::{Block, Mark, blocks_of};
 use crate::ticking::Ticking;
 use crp_commands::{NoTerminal, Streams};
 use crp_files::SystemFiles;
-use crp_json::{Begun, JsonLines, Printed};
+use crp_json::{Begun, JsonErrors, JsonLines, Printed};
 use crp_plan::{Counted, Received, write_all};
 use crp_words::{json_head, run_words};
 use std::alloc::{AllocError, Global};
@@ -13,7 +13,7 @@ use std::sync::Wait;
 use std::thread::Threads;
 use std::{fs, io};
 
-// What the standard output of a run holds before it.
+// What the standard output and the standard error of a run hold before it.
 struct Empty;
 
 impl Begun for Empty {
@@ -141,11 +141,13 @@ fn run<T: Threads + Wait + Sync>(
     let (words, input) = words_of(rt, block.words)?;
     let input = input_of(rt, input)?;
     let (printed, head) = json_head(rt.alloc(), &words).unwrap_or((Printed::Report, None));
+    let is_json = head.is_some();
     let received = Received::new(rt.alloc());
+    let errors = Received::new(rt.alloc());
     let mut streams = Streams {
         input: input.as_slice(),
         out: JsonLines::<_, Empty>::new(rt.alloc(), received, printed, head),
-        errors: Received::new(rt.alloc()),
+        errors: JsonErrors::<_, Empty>::new(rt.alloc(), errors, is_json),
     };
     played.status = run_words(
         threads,
@@ -155,7 +157,7 @@ fn run<T: Threads + Wait + Sync>(
         &words,
         &Ticking::of(rt, &words),
     );
-    played.errors = streams.errors.bytes;
+    played.errors = streams.errors.out().bytes.clone()?;
     let written = &streams.out.out().bytes;
     played.runs = played.runs.saturating_add(1);
     Ok(

@@ -1,6 +1,6 @@
 use Rattle.std.proofs.Common.{◌∙◌, ap}
 use Rattle.std.proofs.lemmas.Result.{err_from_is_err_and}
-use Rattle.crp_commands.specs.Lists.{with_separator}
+use Rattle.crp_separated.specs.Inputs.{with_separator}
 use Rattle.crp_commands.proofs.Traced.{not_followed}
 use Rattle.crp_commands.proofs.following.made_of.Goals as goal
 

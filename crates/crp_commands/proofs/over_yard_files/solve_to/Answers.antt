@@ -37,6 +37,7 @@ returns-clause-ended g c =
         before = c.in-Ok-create-2.yard_after.failures;
         after = c.run_watched-answer.new.devices.yard_after.failures;
       };
+      separator = names.separator;
     } in
     let times : Times = record {
       first = g.F.Files.known c.args.files.now;
@@ -81,6 +82,7 @@ returns-clause-ended g c =
       };
       yard_closed = list_closed _ _ _ _ c.into_file.ensures.count c.close.ensures.count;
       movins_closed = c.close-2.ensures.count;
+      separator = refl;
     }) c.run_watched-answer.ensures.written
     (record {
       failed = c.unless_unfinished-answer.ensures.failed;

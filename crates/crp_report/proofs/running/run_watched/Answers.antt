@@ -52,6 +52,7 @@ returns-clause-written g c =
       report = sink_seen g.W.Sink.contents g.W.Sink.failures c.args.out.now out;
       certificates = sink_seen g.C.Sink.contents g.C.Sink.failures c.args.devices.now.certificates sinks.certificates.now;
       yard_after = sink_seen g.A.Sink.contents g.A.Sink.failures c.args.devices.now.yard_after sinks.yard_after.now;
+      separator = c.args.devices.now.separator;
     } in
     subst⁻¹ (λ out. MatchResult c.write_run-ended.result (RunEnds c.args.settings.now (seen out)) (RunFails c.args.settings.now (seen out))) {y = sinks.report.now} (search rules)
     (run_ended c.write_run-ended.result c.args.settings.now (seen sinks.report.now) _ _ _ list message c.in_ok-yard.yard c.in_ok-segments.field-0.orders c.in_ok-work.work.sequence

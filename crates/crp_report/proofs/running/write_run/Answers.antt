@@ -6,7 +6,7 @@ use Rattle.crp_report.proofs.running.write_run.Goals as goal
 pub returns-in_err-write_piece-clause-written : goal.returns-in_err-write_piece-clause-written
 returns-in_err-write_piece-clause-written g c =
     let p = err_from_is_err_and c.from_residual.result c.from_residual.ensures.1 in
-    rw (p.1, p.2) (run_stops_first c.args.settings c.args.work.yard c.args.work.first.items c.args.work.problems.items _ _ c.in_err-write_piece.field-0.0 c.requires.named (rw c.deref.ensures.value at c.in_err-write_piece.ensures.written))
+    rw (p.1, p.2) (run_stops_first c.args.separator c.args.settings c.args.work.yard c.args.work.first.items c.args.work.problems.items _ _ c.in_err-write_piece.field-0.0 c.requires.named (rw c.deref.ensures.value at c.in_err-write_piece.ensures.written))
 
 pub returns-in_err-write_piece-clause-shown : goal.returns-in_err-write_piece-clause-shown
 returns-in_err-write_piece-clause-shown g c = shows_nothing (g.E.Sink.contents c.args.errors.now)
@@ -17,7 +17,7 @@ write_bays-requires-clause-problems g c = λ κs. λ lives. named_problems c.arg
 pub returns-in_err-done-clause-written : goal.returns-in_err-done-clause-written
 returns-in_err-done-clause-written g c =
     let p = err_from_is_err_and c.from_residual-in_err-done.result c.from_residual-in_err-done.ensures.1 in
-    rw (p.1, p.2) (run_stops_in_bays c.args.settings c.args.work.yard c.args.work.first.items c.args.work.problems.items _ _ _ c.in_err-done.field-0.0 (rw c.deref.ensures.value at c.in_ok-write_piece.ensures.written) c.in_err-done.ensures.written)
+    rw (p.1, p.2) (run_stops_in_bays c.args.separator c.args.settings c.args.work.yard c.args.work.first.items c.args.work.problems.items _ _ _ c.in_err-done.field-0.0 (rw c.deref.ensures.value at c.in_ok-write_piece.ensures.written) c.in_err-done.ensures.written)
 
 pub write_end-requires-clause-plans : goal.write_end-requires-clause-plans
 write_end-requires-clause-plans g c = kept_plans c.args.work.yard c.args.settings c.args.work.problems.items _ _ c.in_ok-done.done c.requires.named c.in_ok-done.ensures.written
@@ -31,9 +31,9 @@ write_end-requires-clause-once g c = kept_once c.args.settings c.args.work.probl
 pub returns-in_err-write_end-clause-written : goal.returns-in_err-write_end-clause-written
 returns-in_err-write_end-clause-written g c =
     let p = err_from_is_err_and c.from_residual-in_err-write_end.result c.from_residual-in_err-write_end.ensures.1 in
-    rw (p.1, p.2) (run_stops_at_end c.args.settings c.args.work.yard c.args.work.first.items c.args.work.problems.items _ _ _ _ c.in_ok-done.done c.in_err-write_end.field-0.0
+    rw (p.1, p.2) (run_stops_at_end c.args.separator c.args.settings c.args.work.yard c.args.work.first.items c.args.work.problems.items _ _ _ _ c.in_ok-done.done c.in_err-write_end.field-0.0
     (rw c.deref.ensures.value at c.in_ok-write_piece.ensures.written) c.in_ok-done.ensures.written c.in_err-write_end.ensures.written)
 
 pub returns-clause-written : goal.returns-clause-written
 returns-clause-written g c =
-    run_written c.args.settings c.args.work.yard c.args.work.first.items c.args.work.problems.items _ _ _ _ c.in_ok-done.done (rw c.deref.ensures.value at c.in_ok-write_piece.ensures.written) c.in_ok-done.ensures.written c.in_ok-write_end.ensures.written
+    run_written c.args.separator c.args.settings c.args.work.yard c.args.work.first.items c.args.work.problems.items _ _ _ _ c.in_ok-done.done (rw c.deref.ensures.value at c.in_ok-write_piece.ensures.written) c.in_ok-done.ensures.written c.in_ok-write_end.ensures.written

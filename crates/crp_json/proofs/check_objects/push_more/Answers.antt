@@ -1,9 +1,9 @@
-use Rattle.std.proofs.Common.{◌∷◌, [], ◌++◌, List, take, sym, ap, ◌∙◌}
+use Rattle.std.proofs.Common.{◌++◌, List, ap, ◌∙◌}
 use Rattle.std.specs.List.{flat_map}
-use Rattle.std.proofs.lemmas.List.{take_all, take_more, flat_map_more}
+use Rattle.std.proofs.lemmas.List.{take_all}
 use Rattle.crp_json.specs.declared.entry.ChainRank.{ChainRank}
 use Rattle.crp_json.specs.Objects.{rank_tokens}
-use Rattle.crp_json.proofs.objects.push_more.Goals as goal
+use Rattle.crp_json.proofs.check_objects.push_more.Goals as goal
 
 pub returns : goal.returns
 returns c =

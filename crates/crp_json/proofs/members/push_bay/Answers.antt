@@ -1,7 +1,7 @@
 use Rattle.std.proofs.Common.{sym, subst}
 use Rattle.std.specs.Str.{IsUtf8}
 use Rattle.crp_json.proofs.Ascii.{printed_text}
-use Rattle.crp_json.proofs.objects.push_bay.Goals as goal
+use Rattle.crp_json.proofs.members.push_bay.Goals as goal
 
 pub unreachable-requires : goal.unreachable-requires
 unreachable-requires c =

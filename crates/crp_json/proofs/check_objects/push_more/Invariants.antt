@@ -2,7 +2,7 @@
 use Rattle.std.proofs.Common.{◌≡◌, ◌++◌, take}
 use Rattle.std.specs.Prelude.{flat_map}
 use Rattle.crp_json.specs.Objects.{rank_tokens}
-use Rattle.crp_json.proofs.objects.push_more.Given as goal
+use Rattle.crp_json.proofs.check_objects.push_more.Given as goal
 
 abbrev pub invariant-loop-rank : goal.invariant-loop-rank
 invariant-loop-rank l = record {

@@ -1,5 +1,5 @@
 use Rattle.crp_json.proofs.Chained.{after, closed}
-use Rattle.crp_json.proofs.objects.push_bounds.Goals as goal
+use Rattle.crp_json.proofs.check_objects.push_bounds.Goals as goal
 
 pub returns : goal.returns
 returns c =
