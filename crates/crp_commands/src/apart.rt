@@ -1,8 +1,9 @@
 //! A block of a file of certificates, checked by several workers.
 //!
-//! Each worker checks a part of the block that begins and ends where a certificate ends, and keeps the lines of its certificates; then the
-//! lines are written in the order of the parts. What no worker has accepted is checked in turn. Nothing is proved of who checks what,
-//! nor that anybody does.
+//! Each worker takes the next part of the block while one is left, checks it, and keeps the lines of its certificates; then the lines are
+//! written in the order of the parts. A part begins and ends where a certificate ends, and parts become smaller towards the end of the
+//! block, since parts of as many bytes do not take as long. What no worker has accepted is checked in turn. Nothing is proved of who
+//! checks what, nor that anybody does.
 ghost use Rattle.std.specs.Prelude.{◌≡◌, ◌≤◌, ◌<◌, ◌+◌, ◌-◌, ◌^◌, All, length, take, drop, IfSome, IfOk, IfErr, OnOk, MatchResult};
 ghost use Rattle.std.specs.Thread.{IsSync};
 ghost use Rattle.crp_plan.specs.Devices.{most_interruptions};
@@ -15,8 +16,15 @@ use crp_checker::FileChecker;
 use crp_jobs::ToolFault;
 use crp_plan::{Received, Sink, write_all};
 use std::alloc::Global;
+use std::sync::atomic::{AtomicUsize, Ordering};
 use std::thread;
 use std::thread::Threads;
+
+// A part is one in so many of what would be each worker's of the rest of the block.
+const PARTS: usize = 3;
+
+// A part has so many bytes at least.
+const LEAST_PART: usize = 1 << 16;
 
 /// What a worker found in a part of a block.
 #[derive(Drop)]
@@ -49,19 +57,25 @@ fn end_behind(block: &[u8], place: usize) -> usize
     block.len()
 }
 
-// Where the part of a worker begins, of so many that share what stands behind `first`.
-fn part_from(block: &[u8], first: usize, worker: usize, workers: usize) -> usize
-    requires { first ≤ length block.now }
+// Where the part ends that begins here: behind its share of the rest of the block, where a certificate ends.
+fn part_end(block: &[u8], from: usize, workers: usize) -> usize
     ensures { result ≤ length block.now }
 {
-    if worker == 0 {
-        return first;
+    let rest = block.len().saturating_sub(from);
+    let share = rest / workers.saturating_mul(PARTS).max(1);
+    end_behind(block, from.saturating_add(share.max(LEAST_PART)))
+}
+
+/// Whether a certificate reaches over one of so many shares of a block.
+pub(crate) fn has_large(block: &[u8], workers: usize) -> bool {
+    let share = block.len() / workers.max(1);
+    for worker in 1..workers {
+        let from = share.saturating_mul(worker);
+        if end_behind(block, from) > from.saturating_add(share) {
+            return true;
+        }
     }
-    if worker >= workers {
-        return block.len();
-    }
-    let share = (block.len() - first) / workers;
-    end_behind(block, share.saturating_mul(worker).saturating_add(first))
+    false
 }
 
 // Checks a part of a block. Nothing is found where a certificate is refused, or where memory is wanted.
@@ -93,27 +107,56 @@ fn found_in(alloc: Global, block: &[u8], from: usize, to: usize) -> Option<Found
     })
 }
 
-// What a worker finds in its part.
-fn found_of(
-    alloc: Global,
-    block: &[u8],
-    first: usize,
-    worker: usize,
-    workers: usize,
-) -> Option<Found>
-    requires first { first ≤ length block.now }
-    requires room { 1 + length block.now < 2 ^ 64 }
-    ensures { IfSome result (IsFoundIn block.now) }
+// What a worker finds: it takes the next part as long as one is left, or until memory is wanted. `next` says where that begins.
+fn found_of(alloc: Global, block: &[u8], next: &AtomicUsize, workers: usize) -> Vec<Option<Found>>
+    requires { 1 + length block.now < 2 ^ 64 }
+    ensures { All (λ found. IfSome found (IsFoundIn block.now)) result.items }
 {
-    let from = part_from(block, first, worker, workers);
-    let to = part_from(block, first, worker.saturating_add(1), workers);
-    if from >= to {
-        return None;
+    let mut all = Vec::new(alloc);
+    for _turn in 0..block.len() {
+        let from = next.load(Ordering::Relaxed);
+        let to = part_end(block, from, workers);
+        if from >= to {
+            return all;
+        }
+        let taken = next.compare_exchange(from, to, Ordering::Relaxed, Ordering::Relaxed);
+        if taken.is_ok() {
+            let Ok(()) = all.push(found_in(alloc, block, from, to)) else {
+                return all;
+            };
+        }
     }
-    found_in(alloc, block, from, to)
+    all
+}
+
+// Moves what a worker found behind what others found; nothing, where memory is wanted.
+fn move_all(_block: &[u8], found: &mut Vec<Option<Found>>, all: &mut Vec<Option<Found>>)
+    requires found { All (λ found. IfSome found (IsFoundIn _block.now)) found.old.items }
+    requires all { All (λ found. IfSome found (IsFoundIn _block.now)) all.old.items }
+    ensures found { All (λ found. IfSome found (IsFoundIn _block.now)) found.new.items }
+    ensures all { All (λ found. IfSome found (IsFoundIn _block.now)) all.new.items }
+{
+    let _moved = all.append(found);
+}
+
+// Where a part begins in which something was found. Others come last.
+fn begin_of(found: &Option<Found>) -> usize {
+    match found {
+        Some(found) => found.from,
+        None => usize::MAX,
+    }
+}
+
+// Puts what was found in the order of the parts.
+fn put_in_order(_block: &[u8], all: &mut Vec<Option<Found>>)
+    requires { All (λ found. IfSome found (IsFoundIn _block.now)) all.old.items }
+    ensures { All (λ found. IfSome found (IsFoundIn _block.now)) all.new.items }
+{
+    all.sort_unstable_by_key(|found: &Option<Found>| begin_of(found));
 }
 
 // What so many workers find behind this place, at the same time.
+#[tactic(auto, using(std::proofs::lemmas::Grind::common_steps))]
 fn found_by<T: Threads + Sync>(
     rt: &T,
     alloc: Global,
@@ -121,23 +164,28 @@ fn found_by<T: Threads + Sync>(
     first: usize,
     workers: usize,
 ) -> Vec<Option<Found>>
-    requires first { first ≤ length block.now }
-    requires room { 1 + length block.now < 2 ^ 64 }
+    requires { 1 + length block.now < 2 ^ 64 }
     ensures { All (λ found. IfSome found (IsFoundIn block.now)) result.items }
 {
+    let next = AtomicUsize::new(first);
+    let mut all = Vec::new(alloc);
     let found = thread::map_indices(
         rt,
         alloc,
         workers,
-        &|worker: usize| -> Option<Found>
-            requires { (first ≤ length block.now) × (1 + length block.now < 2 ^ 64) }
-            ensures { IfSome result (IsFoundIn block.entry.now) }
-        { found_of(alloc, block, first, worker, workers) },
+        &|_worker: usize| -> Vec<Option<Found>>
+            requires { 1 + length block.now < 2 ^ 64 }
+            ensures { All (λ found. IfSome found (IsFoundIn block.entry.now)) result.items }
+        { found_of(alloc, block, &next, workers) },
     );
-    match found {
-        Ok(found) => found,
-        Err(_) => Vec::new(alloc),
+    let Ok(mut lists) = found else {
+        return all;
+    };
+    for i in 0..lists.len() {
+        move_all(block, &mut lists[i], &mut all);
     }
+    put_in_order(block, &mut all);
+    all
 }
 
 // Takes over what a worker found, if its part begins at this place and no certificate has begun before it. The answer is where it goes on.

@@ -4,12 +4,19 @@ ghost use Rattle.std.specs.Io.KnownBytes.{Consumes, IsAtEnd};
 ghost use Rattle.crp_plan.specs.Devices.{HasFailed, most_interruptions};
 ghost use Rattle.crp_commands.specs.Calls.{failures_of_tool_fault};
 
+use crate::apart::has_large;
 use crp_jobs::ToolFault;
 use crp_plan::{MOST_INTERRUPTIONS, Source, read_some};
 use std::alloc::Global;
 
 // How many bytes are read at a time, at most.
 const PIECE: usize = 16_384;
+
+// So many bytes are held for each worker.
+const SHARE: usize = 1 << 24;
+
+// So many are held for each worker where a certificate is larger than that.
+const LARGE_SHARE: usize = 1 << 25;
 
 /// What was left where the reading of a block has ended.
 #[derive(Clone, Copy)]
@@ -65,14 +72,14 @@ fn fill_some<R: Source>(
     Ok(Left::More)
 }
 
-/// Reads a block of at least so many bytes, or down to where the source ends or fails.
+/// Reads a block for so many workers, or down to where the source ends or fails.
 pub(crate) fn fill<R: Source>(
     reader: &mut R,
     block: &mut Vec<u8>,
-    size: usize,
+    workers: u32,
     interruptions: &mut u32,
 ) -> Result<Left, ToolFault>
-    requires some { 0 < size }
+    requires some { 0 < workers }
     requires passed { interruptions.old ≤ most_interruptions }
     ensures got { OnOk result (Consumes (R.remaining reader.old) (R.remaining reader.new) block.new.items) }
     ensures more { IfOk result (λ left. left ≡ Left.More → 0 < length block.new.items) }
@@ -84,11 +91,17 @@ pub(crate) fn fill<R: Source>(
     ensures count { R.failures reader.old ≤ R.failures reader.new }
     ensures passed { (interruptions.old ≤ interruptions.new) × (interruptions.new ≤ most_interruptions) }
 {
+    let workers = workers as usize;
+    let most = workers * LARGE_SHARE;
+    let mut size = workers * SHARE;
     block.clear();
     while block.len() < size {
         match fill_some(reader, block, interruptions)? {
             Left::More => {}
             left => return Ok(left),
+        }
+        if size < most && block.len() >= size && has_large(block, workers) {
+            size = most;
         }
     }
     Ok(Left::More)

@@ -25,9 +25,6 @@ use std::thread::Threads;
 // How many bytes are read at a time, at most.
 const PIECE: usize = 16_384;
 
-// So many bytes are held for each worker, where several check.
-const SHARE: usize = 1 << 25;
-
 // Adds the relocations of a plan, if there is one.
 fn push_plan_words(text: &mut Vec<u8>, count: Option<u32>) -> Result<(), AllocError>
     ensures { OnOk result (text.new.items ≡ text.old.items ++ plan_words count) }
@@ -207,13 +204,12 @@ fn check_block<T: Threads + Sync, R: Source, W: Sink>(
     ensures count { (R.failures reader.old ≤ R.failures reader.new) × (W.failures writer.old ≤ W.failures writer.new) }
     ensures passed { (interruptions.old ≤ interruptions.new) × (interruptions.new ≤ most_interruptions) }
 {
-    let workers = workers as usize;
-    let more = fill(reader, block, workers * SHARE, interruptions)?;
+    let more = fill(reader, block, workers, interruptions)?;
     let fed = block.len().min(*left);
     check_apart(
         rt,
         alloc,
-        workers,
+        workers as usize,
         files,
         number,
         &block[..fed],

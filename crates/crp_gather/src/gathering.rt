@@ -1,5 +1,5 @@
 //! Parts held against the names that are needed.
-ghost use Rattle.std.specs.Prelude.{◌≡◌, ◌↔◌, ℕ, List, All, Contains, IsTrue, IfSome, IfNone, IfOk, OnOk, IfErr};
+ghost use Rattle.std.specs.Prelude.{◌≡◌, ◌↔◌, ◌++◌, ℕ, List, All, Contains, IsTrue, IfSome, IfNone, IfOk, OnOk, IfErr};
 ghost use Rattle.std.specs.List.Sorted.{IsSorted, IsPermutation};
 ghost use Rattle.std.specs.Cmp.Lexicographic.{slice_cmp};
 ghost use Rattle.std.specs.Ordering.{nat_cmp};
@@ -29,6 +29,16 @@ fn names(alloc: Global, parts: &[Part]) -> Result<Vec<Name>, AllocError>
     parts.iter().map(|part| part.name().copy()).collect(alloc)
 }
 
+/// Adds copies of the names.
+fn push_copies(to: &mut Vec<Name>, names: &[Name]) -> Result<(), AllocError>
+    ensures { OnOk result (to.new.items ≡ to.old.items ++ names.now) }
+{
+    for name in names {
+        to.push(name.copy())?;
+    }
+    Ok(())
+}
+
 /// The names that are needed, in order: the root, and those that the parts give.
 fn needed_names(alloc: Global, parts: &[Part]) -> Result<Vec<Name>, AllocError>
     ensures sorted { IfOk result (λ needed. IsSorted (slice_cmp nat_cmp) needed.items) }
@@ -36,8 +46,7 @@ fn needed_names(alloc: Global, parts: &[Part]) -> Result<Vec<Name>, AllocError>
 {
     let mut needed = Vec::new(alloc);
     for part in parts {
-        let mut given = part.given_names(alloc)?.into_vec();
-        needed.append(&mut given)?;
+        push_copies(&mut needed, part.given_names())?;
     }
     needed.push(Name::root())?;
     needed.sort_unstable();

@@ -190,7 +190,7 @@ fn settle_part(alloc: Global, part: &Part, plan: &Plan) -> Result<Option<Part>, 
         &mut settled,
     )?;
     let name = part.name().copy();
-    let part = Part::new(problem, name, Tree::from_row(settled), floor);
+    let part = Part::new(alloc, problem, name, Tree::from_row(settled), floor)?;
     Ok(Some(part))
 }
 

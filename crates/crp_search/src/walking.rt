@@ -378,5 +378,5 @@ pub fn walk<S: Seek, L: Limit>(
         limit,
         split.min(MAX_NAME as u8),
     )?;
-    Ok(Part::new(problem, name, found.tree, found.floor))
+    Ok(Part::new(alloc, problem, name, found.tree, found.floor)?)
 }

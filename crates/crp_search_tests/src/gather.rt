@@ -38,7 +38,7 @@ fn give_all(alloc: Global, problem: &Problem) -> Result<Option<Part>, AllocError
         row.push(Kind::Given, &[])?;
     }
     let tree = Tree::from_row(row);
-    let part = Part::new(problem, Name::root(), tree, problem.cap());
+    let part = Part::new(alloc, problem, Name::root(), tree, problem.cap())?;
     Ok(Some(part))
 }
 
@@ -55,7 +55,7 @@ fn cut_ahead(alloc: Global, problem: &Problem, rows: &[u8]) -> Result<Option<Par
     let mut row = Row::new(alloc);
     row.push(Kind::CutL, &[])?;
     let tree = Tree::from_row(row);
-    Ok(Some(Part::new(problem, name, tree, floor)))
+    Ok(Some(Part::new(alloc, problem, name, tree, floor)?))
 }
 
 /// The part at these rows that is cut by the blocking bound.
@@ -71,7 +71,7 @@ fn cut_blocking(alloc: Global, problem: &Problem, rows: &[u8]) -> Result<Option<
     let mut row = Row::new(alloc);
     row.push(Kind::CutB, &[])?;
     let tree = Tree::from_row(row);
-    Ok(Some(Part::new(problem, name, tree, floor)))
+    Ok(Some(Part::new(alloc, problem, name, tree, floor)?))
 }
 
 fn part_of(alloc: Global, piece: Piece, problem: &Problem) -> Result<Option<Part>, Fail> {
@@ -82,11 +82,6 @@ fn part_of(alloc: Global, piece: Piece, problem: &Problem) -> Result<Option<Part
         Piece::Below => Ok(cut_blocking(alloc, problem, &[3, 2])?),
         Piece::Foreign => Ok(cut_ahead(alloc, &problem_of(alloc, &FOUR)?, &[2])?),
     }
-}
-
-/// The names that a part gives to others.
-fn names_given(alloc: Global, part: &Part) -> Result<Vec<Name>, AllocError> {
-    Ok(part.given_names(alloc)?.into_vec())
 }
 
 /// What is made of these pieces of the search of the six.
@@ -149,7 +144,7 @@ const CASES: [(&[Piece], &str); 17] = [
 fn the_root_gives_two_names_away(rt: HostRuntime) -> Result<(), Fail> {
     let problem = problem_of(rt.alloc(), &SIX)?;
     let root = part_of(rt.alloc(), Piece::Root, &problem)?.ok_or("a part")?;
-    let given = names_given(rt.alloc(), &root)?;
+    let given = root.given_names();
     assert_same(&rt, &given.len(), &2);
     for (name, row) in given.iter().zip([2, 3]) {
         assert_same(&rt, &name.rows(), &[row].as_slice());

@@ -88,8 +88,7 @@ fn root_cut(alloc: Global, problem: &Problem) -> Result<Part, AllocError>
     let mut row = Row::new(alloc);
     row.push(Kind::CutL, &[])?;
     let tree = Tree::from_row(row);
-    let part = Part::new(problem, Name::root(), tree, ahead.min(problem.cap()));
-    Ok(part)
+    Part::new(alloc, problem, Name::root(), tree, ahead.min(problem.cap()))
 }
 
 /// The certificate of that part alone.

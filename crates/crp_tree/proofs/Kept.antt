@@ -1,5 +1,6 @@
 -- What parts and certificates keep.
 use Rattle.std.proofs.Common.{◌≡◌, ℕ, ◌+◌, ◌≤◌, ◌<◌, min, ◌⊎◌, inl, inr, ⊎_elim, List, length, take, get_or, Contains, All, sym, ap, ◌∙◌, subst, arith}
+use Rattle.std.specs.Prelude.{AllPairs}
 use Rattle.std.proofs.lemmas.List.Elements.{All-more, All-weaker, All-map, All-same}
 use Rattle.std.proofs.lemmas.List.{take_all}
 use Rattle.std.proofs.lemmas.Bool.{cases_lt}
@@ -8,10 +9,11 @@ use Rattle.crp_plan.proofs.Paths.{same_at}
 use Rattle.crp_bounds.specs.Bounds.{look_ahead}
 use Rattle.crp_tree.specs.Tree.{Tree}
 use Rattle.crp_tree.specs.Trees.{nodes, given_names, least_through, least_value, HasShape, Shows}
-use Rattle.crp_tree.specs.Claims.{IsPart, nodes_in}
-use Rattle.crp_tree.specs.Parts.{ProblemPart, nodes_of, part_of, IsKeptPart, IsLeast, floors_of}
+use Rattle.crp_tree.specs.Claims.{Part, IsPart, nodes_in}
+use Rattle.crp_tree.specs.Names.{Precedes}
+use Rattle.crp_tree.specs.Parts.{ProblemPart, nodes_of, given_of, part_of, IsKeptPart, IsPartGiving, IsLeast, floors_of}
 use Rattle.crp_tree.proofs.Shown.{shows_least}
-use Rattle.crp_tree.proofs.Nodes.{At, StandsAt, nodes_stand}
+use Rattle.crp_tree.proofs.Nodes.{At, StandsAt, nodes_stand, given_rise}
 use Rattle.crp_tree.proofs.Lists.{in_map}
 use Rattle.crp_tree.proofs.Accepted.{nodes_are}
 
@@ -30,11 +32,19 @@ kept p q name tree floor same ok is e =
     })
 
 -- a part's tree has its shape at the position of its name
-pub shape_at_name : (x : ProblemPart) (s : Position) → IsKeptPart x → IsAt x.problem x.name s → HasShape x.name s x.tree
-shape_at_name x s k a =
-    let is = k.is_part in
-    let place : is.place ≡ s = same_at x.problem x.name is.place s k.is_problem is.is_at a in
+pub shape_there : (p : Problem) (x : Part) (s : Position) → IsProblem p → IsPart p x → IsAt p x.name s → HasShape x.name s x.tree
+shape_there p x s ok is a =
+    let place : is.place ≡ s = same_at p x.name is.place s ok is.is_at a in
     subst (λ t. HasShape x.name t x.tree) place is.shape
+
+pub shape_at_name : (x : ProblemPart) (s : Position) → IsKeptPart x → IsAt x.problem x.name s → HasShape x.name s x.tree
+shape_at_name x s k a = shape_there x.problem (part_of x) s k.is_problem k.is_part a
+
+-- the names that a part gives rise
+pub names_rise : (x : ProblemPart) → IsKeptPart x → AllPairs Precedes (given_of x)
+names_rise x k =
+    let is = k.is_part in
+    subst (λ l. AllPairs Precedes (given_names l)) (sym (nodes_are x.problem (part_of x) is.place k.is_problem is.is_at)) (given_rise x.name is.place x.tree)
 
 -- a part's nodes are those of its tree at the position of its name
 pub nodes_at_name : (x : ProblemPart) (s : Position) → IsKeptPart x → IsAt x.problem x.name s → nodes_of x ≡ nodes x.name s x.tree

@@ -6,12 +6,12 @@ use Rattle.std.proofs.lemmas.Bool.{or_parts}
 use Rattle.std.proofs.lemmas.List.{map-append}
 use Rattle.crp_row.specs.Rows.{kind_of, gives_away}
 use Rattle.std.proofs.lemmas.List.Folds.{list_any-append}
-use Rattle.crp_plan.specs.Bay.{Position}
+use Rattle.crp_plan.specs.Bay.{Problem, Position}
 use Rattle.crp_bay.specs.Positions.{targets, child, at}
 use Rattle.crp_tree.specs.Tree.{Tree, CutB, CutL, CutR, Branch, Given, Trees, no_trees, one_and}
 use Rattle.crp_tree.specs.Trees.{nodes, nodes_of_each, given_names}
 use Rattle.crp_tree.specs.Symbols.{symbols, symbols_of_each}
-use Rattle.crp_tree.specs.Parts.{ProblemPart, given_of}
+use Rattle.crp_tree.specs.Claims.{Part, given_by}
 use Rattle.crp_tree.proofs.Nodes.{given_names-append}
 
 mutual
@@ -36,8 +36,8 @@ mutual
       ∙ none_in_each path s rows trees parts.1
 
 -- so a part of such a tree gives no name
-pub none_of : (x : ProblemPart) → list_any gives_away (map kind_of (symbols x.tree)) ≡ false → given_of x ≡ []
-none_of x free = by (at x.problem x.name)
+pub none_of : (p : Problem) (x : Part) → list_any gives_away (map kind_of (symbols x.tree)) ≡ false → given_by p x ≡ []
+none_of p x free = by (at p x.name)
   where
     by : (o : Option Position) → given_names (unwrap_or (option_map (λ s. nodes x.name s x.tree) o) []) ≡ []
     by None = refl

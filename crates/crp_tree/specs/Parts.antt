@@ -40,6 +40,11 @@ pub record IsKeptPart (x : ProblemPart) : Type 0 where
   pub floor_is : x.floor ≡ least_value (cap x.problem) (nodes_of x)
   pub shows : Shows x.problem x.name (given_of x) x.floor
 
+-- what a part in memory keeps: that, and the names that it gives
+pub record IsPartGiving (x : ProblemPart) (given : List (List ℕ)) : Type 0 where
+  pub kept : IsKeptPart x
+  pub given_is : given ≡ given_of x
+
 -- the number is the least of the list: it stands there, and none is below it
 pub record IsLeast (number : ℕ) (list : List ℕ) : Type 0 where
   pub stands : Contains list number

@@ -4,7 +4,6 @@
 mod cert;
 mod laws;
 mod name;
-mod name_list;
 mod part;
 mod part_list;
 mod path_text;
@@ -17,7 +16,6 @@ pub use laws::{
     one_first_best, parts_cover, trees_show, whole_part_bounds,
 };
 pub use name::{MAX_NAME, Name};
-pub use name_list::Names;
 pub use part::Part;
 pub use part_list::Parts;
 pub use path_text::PathText;

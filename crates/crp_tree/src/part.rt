@@ -6,11 +6,10 @@ ghost use Rattle.crp_tree.specs.Names.{Precedes};
 ghost use Rattle.crp_tree.specs.Trees.{nodes, Fits, IsInPlace, given_names, least_value};
 ghost use Rattle.crp_tree.specs.Listed.{AreFit, nodes_below};
 ghost use Rattle.crp_tree.specs.Symbols.{tree_of, some_trees, ComesFirst, ComeFirst};
-ghost use Rattle.crp_tree.specs.Claims.{IsPart, nodes_in};
+ghost use Rattle.crp_tree.specs.Claims.{IsPart, nodes_in, given_by};
 ghost use Rattle.crp_tree.specs.Parts.{given_of, IsKeptPart};
 
 use crate::name::{MAX_NAME, Name};
-use crate::name_list::Names;
 use crate::tree::{Tree, pass_trees};
 use crp_bay::Position;
 use crp_plan::Problem;
@@ -28,10 +27,11 @@ pub struct Part {
     name: Name,
     tree: Tree,
     floor: u32,
+    given: Vec<Name>,
 }
 
 impl Model for Part {
-    ghost use Rattle.crp_tree.specs.Parts.{ProblemPart, IsKeptPart};
+    ghost use Rattle.crp_tree.specs.Parts.{ProblemPart, IsPartGiving};
     ghost use Rattle.crp_tree.specs.Symbols.{tree_code};
     ghost use Rattle.std.specs.Coded.{codes};
 
@@ -41,24 +41,32 @@ impl Model for Part {
 
     ghost view = { λ x. record { problem = x.problem; name = x.name; tree = x.tree; floor = x.floor } };
 
-    ghost invariant = { λ x. IsKeptPart (record { problem = x.problem; name = x.name; tree = x.tree; floor = x.floor }) };
+    ghost invariant = { λ x. IsPartGiving (record { problem = x.problem; name = x.name; tree = x.tree; floor = x.floor }) x.given.items };
 }
 
 impl Part {
     /// The part of these. Its tree must have its shape at the name, and its floor must be the least
-    /// value of its cuts, or the problem's cap where none is below that. It takes no memory.
-    pub fn new(problem: &Problem, name: Name, tree: Tree, floor: u32) -> Part
+    /// value of its cuts, or the problem's cap where none is below that. The names that it gives are found here, once.
+    pub fn new(
+        alloc: Global,
+        problem: &Problem,
+        name: Name,
+        tree: Tree,
+        floor: u32,
+    ) -> Result<Part, AllocError>
         requires part { IsPart problem.now (record { name = name; tree = tree }) }
         requires floor { floor ≡ least_value (cap problem.now) (nodes_in problem.now (record { name = name; tree = tree })) }
-        ensures value { result ≡ record { problem = problem.now; name = name; tree = tree; floor = floor } }
-        ensures part { IsKeptPart result }
+        ensures value { IfOk result (λ part. part ≡ record { problem = problem.now; name = name; tree = tree; floor = floor }) }
+        ensures part { IfOk result IsKeptPart }
     {
-        Part {
+        let given = names_given(alloc, problem, &name, &tree)?;
+        Ok(Part {
             problem: problem.copy(),
             name,
             tree,
             floor,
-        }
+            given,
+        })
     }
 
     /// The problem whose search it is a part of.
@@ -94,21 +102,34 @@ impl Part {
     }
 
     /// The names that it gives to other parts, rising.
-    pub fn given_names(&self, alloc: Global) -> Result<Names, AllocError>
-        ensures names { IfOk result (λ names. names ≡ given_of self.now) }
-        ensures rising { IfOk result (λ names. AllPairs Precedes names) }
+    pub fn given_names(&self) -> &[Name]
+        ensures names { result.now ≡ given_of self.now }
+        ensures rising { AllPairs Precedes result.now }
     {
-        let mut names = Vec::new(alloc);
-        if !self.tree.gives() {
-            return Ok(Names::from_vec(names));
-        }
-        let Some(place) = self.name.position(&self.problem) else {
-            unreachable!()
-        };
-        let mut list = self.tree.symbols();
-        collect(&mut list, &self.name, &place, &mut names)?;
-        Ok(Names::from_vec(names))
+        self.given.as_slice()
     }
+}
+
+/// The names that a part of this name and tree gives to other parts.
+fn names_given(
+    alloc: Global,
+    problem: &Problem,
+    name: &Name,
+    tree: &Tree,
+) -> Result<Vec<Name>, AllocError>
+    requires { IsPart problem.now (record { name = name.now; tree = tree.now }) }
+    ensures { IfOk result (λ names. names.items ≡ given_by problem.now (record { name = name.now; tree = tree.now })) }
+{
+    let mut names = Vec::new(alloc);
+    if !tree.gives() {
+        return Ok(names);
+    }
+    let Some(place) = name.position(problem) else {
+        unreachable!()
+    };
+    let mut list = tree.symbols();
+    collect(&mut list, name, &place, &mut names)?;
+    Ok(names)
 }
 
 /// Adds the names that the tree whose symbols come first gives at a path, and passes it. None has more than 8 rows.

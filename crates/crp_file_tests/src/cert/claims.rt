@@ -37,7 +37,7 @@ fn cut_ahead(rt: &impl Abort, alloc: Global) -> Result<(Problem, Cert), AllocErr
     let mut row = Row::new(alloc);
     row.push(Kind::CutL, b"")?;
     let tree = Tree::from_row(row);
-    let part = Part::new(&problem, Name::root(), tree, 2);
+    let part = Part::new(alloc, &problem, Name::root(), tree, 2)?;
     let cert = Cert::whole(alloc, part)?;
     Ok((problem, cert))
 }

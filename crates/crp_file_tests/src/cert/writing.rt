@@ -29,7 +29,8 @@ fn whole(alloc: Global, problem: &Problem, tree: Tree, floor: u32) -> Result<Cer
     requires shape { HasShape [] (settled (start problem.now)) tree }
     requires floor { floor ≡ least_value (cap problem.now) (nodes [] (settled (start problem.now)) tree) }
 {
-    Cert::whole(alloc, Part::new(problem, Name::root(), tree, floor))
+    let part = Part::new(alloc, problem, Name::root(), tree, floor)?;
+    Cert::whole(alloc, part)
 }
 
 /// Four containers in three rows, branched at the empty path and below row 2: two relocations at least.

@@ -28,8 +28,8 @@ settle_tree-requires-clause-in_place c =
     let whole : IsFront c.args.part.now.tree c.symbols-rest.result [] = alone c.args.part.now.tree c.symbols-rest.result (c.symbols-rest.ensures ∙ ap (λ t. symbols t) c.tree.ensures.value) in
     subst (λ t. All IsInPlace (nodes c.try_extend_from_slice.new.self.items c.in-Some.place.place t)) (sym whole.is) (subst (λ l. All IsInPlace (nodes l c.in-Some.place.place c.args.part.now.tree)) (sym path) shape.in_place)
 
-pub new-part-requires-clause-part : goal.new-part-requires-clause-part
-new-part-requires-clause-part c =
+pub new-requires-clause-part : goal.new-requires-clause-part
+new-requires-clause-part c =
     let at : IsAt c.args.part.now.problem c.args.part.now.name c.in-Some.place.place = subst (λ q. IsAt q c.args.part.now.name c.in-Some.place.place) c.problem-problem.ensures.value (subst (λ l. IsAt c.problem-problem.result.now l c.in-Some.place.place) c.name.ensures.value c.in-Some.ensures.at) in
     let path : c.try_extend_from_slice.new.self.items ≡ c.args.part.now.name = c.in-Ok.ensures.ok ∙ ap (λ l. l ++ c.rows.result.now) c.new-path.ensures ∙ c.rows.ensures.value ∙ c.name-2.ensures.value in
     let whole : IsFront c.args.part.now.tree c.symbols-rest.result [] = alone c.args.part.now.tree c.symbols-rest.result (c.symbols-rest.ensures ∙ ap (λ t. symbols t) c.tree.ensures.value) in
@@ -41,8 +41,8 @@ new-part-requires-clause-part c =
     c.problem-problem.ensures.value (c.copy-name.ensures ∙ c.name-3.ensures.value) path whole.is c.tree.ensures.part at m in
     n.is_part
 
-pub new-part-requires-clause-floor : goal.new-part-requires-clause-floor
-new-part-requires-clause-floor c =
+pub new-requires-clause-floor : goal.new-requires-clause-floor
+new-requires-clause-floor c =
     let at : IsAt c.args.part.now.problem c.args.part.now.name c.in-Some.place.place = subst (λ q. IsAt q c.args.part.now.name c.in-Some.place.place) c.problem-problem.ensures.value (subst (λ l. IsAt c.problem-problem.result.now l c.in-Some.place.place) c.name.ensures.value c.in-Some.ensures.at) in
     let path : c.try_extend_from_slice.new.self.items ≡ c.args.part.now.name = c.in-Ok.ensures.ok ∙ ap (λ l. l ++ c.rows.result.now) c.new-path.ensures ∙ c.rows.ensures.value ∙ c.name-2.ensures.value in
     let whole : IsFront c.args.part.now.tree c.symbols-rest.result [] = alone c.args.part.now.tree c.symbols-rest.result (c.symbols-rest.ensures ∙ ap (λ t. symbols t) c.tree.ensures.value) in
@@ -62,5 +62,5 @@ returns-clause-settled c =
     let m : IsMade c.problem-problem.result.now c.args.plan.now.path c.try_extend_from_slice.new.self.items c.in-Some.place.place (tree_of c.symbols-rest.result) c.from_row.result c.in_ok-floor.floor =
     made c.problem-problem.result.now c.args.plan.now.path c.try_extend_from_slice.new.self.items c.in-Some.place.place (tree_of c.symbols-rest.result) c.from_row.result c.new-settled.result.symbols c.settle_tree.new.settled.symbols c.in_ok-floor.floor
     c.new-settled.ensures c.from_row.ensures c.in_ok-floor.ensures.settled in
-    part_settled c.args.part.now c.new-part.result c.args.plan.now.path c.problem-problem.result.now c.copy-name.result c.try_extend_from_slice.new.self.items c.in-Some.place.place (tree_of c.symbols-rest.result) c.from_row.result c.in_ok-floor.floor
-    c.problem-problem.ensures.value (c.copy-name.ensures ∙ c.name-3.ensures.value) path whole.is c.tree.ensures.part at c.in_default-close_past.ensures.open m.is c.new-part.ensures.value
+    part_settled c.args.part.now c.in_ok-part.part c.args.plan.now.path c.problem-problem.result.now c.copy-name.result c.try_extend_from_slice.new.self.items c.in-Some.place.place (tree_of c.symbols-rest.result) c.from_row.result c.in_ok-floor.floor
+    c.problem-problem.ensures.value (c.copy-name.ensures ∙ c.name-3.ensures.value) path whole.is c.tree.ensures.part at c.in_default-close_past.ensures.open m.is c.in_ok-part.ensures.value

@@ -48,8 +48,8 @@ given_away c =
     (gives_all c.args.problem.now c.root.result (replicate n Given) s c.targets-targets.result.items c.cap.result c.cap.ensures.problem c.root.ensures (ap (λ (v : PlaceAndTrail). v.place) c.start-place.ensures.value) goes c.targets-targets.ensures.value
     (ap (λ k. replicate k Given) c.len-end.ensures.value) c.cap.ensures.value)
 
-pub new-part-requires-clause-part : goal.new-part-requires-clause-part
-new-part-requires-clause-part c = let all = given_away c in all.is_part
+pub new-requires-clause-part : goal.new-requires-clause-part
+new-requires-clause-part c = let all = given_away c in all.is_part
 
-pub new-part-requires-clause-floor : goal.new-part-requires-clause-floor
-new-part-requires-clause-floor c = let all = given_away c in all.floor_is
+pub new-requires-clause-floor : goal.new-requires-clause-floor
+new-requires-clause-floor c = let all = given_away c in all.floor_is

@@ -19,15 +19,15 @@ one_cut tree empty list none made is = sym (alone CutL list (made ∙ ap (λ l. 
 pub from_row-tree-requires : goal.from_row-tree-requires
 from_row-tree-requires g c = (CutL, c.in_ok-push.ensures.symbols ∙ ap (λ l. l ++ symbol.CutL ∷ []) c.new-row.ensures)
 
-pub new-part-requires-clause-part : goal.new-part-requires-clause-part
-new-part-requires-clause-part g c =
+pub new-requires-clause-part : goal.new-requires-clause-part
+new-requires-clause-part g c =
     let is : c.four-problem.result ≡ four = three_rows 3 4 c.four-problem.result _ _ _ _ _ _ c.four-problem.ensures.value c.in_ok-vec.ensures.items c.in_ok-vec-2.ensures.items c.in_ok-vec-3.ensures.items in
     let same : CutL ≡ c.from_row-tree.result = one_cut c.from_row-tree.result _ _ c.new-row.ensures c.in_ok-push.ensures.symbols c.from_row-tree.ensures in
     let shows = subst (λ t. ShapeAndFloor 2 t c.four-problem.result) same (four_show c.four-problem.result is) in
     part_at_root c.four-problem.result c.root.result c.from_row-tree.result c.root.ensures c.four-problem.ensures.problem shows.0
 
-pub new-part-requires-clause-floor : goal.new-part-requires-clause-floor
-new-part-requires-clause-floor g c =
+pub new-requires-clause-floor : goal.new-requires-clause-floor
+new-requires-clause-floor g c =
     let is : c.four-problem.result ≡ four = three_rows 3 4 c.four-problem.result _ _ _ _ _ _ c.four-problem.ensures.value c.in_ok-vec.ensures.items c.in_ok-vec-2.ensures.items c.in_ok-vec-3.ensures.items in
     let same : CutL ≡ c.from_row-tree.result = one_cut c.from_row-tree.result _ _ c.new-row.ensures c.in_ok-push.ensures.symbols c.from_row-tree.ensures in
     let shows = subst (λ t. ShapeAndFloor 2 t c.four-problem.result) same (four_show c.four-problem.result is) in
@@ -38,7 +38,7 @@ returns g c =
     let is : c.four-problem.result ≡ four = three_rows 3 4 c.four-problem.result _ _ _ _ _ _ c.four-problem.ensures.value c.in_ok-vec.ensures.items c.in_ok-vec-2.ensures.items c.in_ok-vec-3.ensures.items in
     let same : c.from_row-tree.result ≡ CutL = sym (one_cut c.from_row-tree.result _ _ c.new-row.ensures c.in_ok-push.ensures.symbols c.from_row-tree.ensures) in
     let cert =
-    c.in_ok-cert.ensures.value ∙ ap (λ (x : ProblemPart). record { parts = x ∷ []; lower = x.floor }) (c.new-part.ensures.value ∙ ap (λ name. record { problem = c.four-problem.result; name = name; tree = c.from_row-tree.result; floor = 2 }) c.root.ensures
+    c.in_ok-cert.ensures.value ∙ ap (λ (x : ProblemPart). record { parts = x ∷ []; lower = x.floor }) (c.in_ok-part.ensures.value ∙ ap (λ name. record { problem = c.four-problem.result; name = name; tree = c.from_row-tree.result; floor = 2 }) c.root.ensures
     ∙ ap (λ tree. record { problem = c.four-problem.result; name = []; tree = tree; floor = 2 }) same) in
     subst (λ l. CanBeSpelled (claimed c.four-problem.result l None)) (sym cert)
     (spelled_at_root c.four-problem.result CutL 2 c.four-problem.ensures.problem (four_show c.four-problem.result is) refl)
