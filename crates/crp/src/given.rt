@@ -1,4 +1,6 @@
 //! The words that the program is given.
+ghost use Rattle.std.specs.Prelude.{ℕ, List, IfOk, map, option_map, string_bytes};
+ghost use Rattle.crp_words.specs.Json.{IsJsonHead};
 
 use crate::program::texts_of;
 use crp_json::Printed;
@@ -30,7 +32,9 @@ fn usage_without_words(alloc: Global, error: &io::Error) -> Usage {
 pub type Head = (Printed, Option<Vec<u8>>);
 
 // What the words print, and the first line of JSON Lines, where they ask for these.
-fn head_of(alloc: Global, words: &[String]) -> Result<Head, Usage> {
+fn head_of(alloc: Global, words: &[String]) -> Result<Head, Usage>
+    ensures { (line : List ℕ) × IfOk result (λ head. IsJsonHead (map string_bytes words.now) line head.0 (option_map (λ line. line.items) head.1)) }
+{
     match texts_of(alloc, words) {
         Ok(texts) => json_head(alloc, &texts),
         Err(_) => Err(Usage::Memory),

@@ -5,29 +5,22 @@ use Rattle.crp_plan.specs.Bay.{Position}
 use Rattle.crp_bay.specs.Positions.{source, stack_at, can_shift}
 use Rattle.crp_bay.specs.Reached.{IsReached}
 use Rattle.crp_bay.proofs.Reaching.{reached_ordered}
-use Rattle.crp_bay.specs.Located.{IsLocated}
-use Rattle.crp_bay.proofs.Going.{row_found}
 
 -- ranks are below 97
 pub next_few : (s : Position) → IsReached s → s.next ≤ s.ordered → s.next < 97
 next_few s r le = let b = reached_ordered s r in omega arith
 
 -- the next container stands in the row
-pub stands_there : (rows : List ℕ) (s : Position) (row : ℕ) → IsLocated rows s → s.next ≤ s.ordered → 1 ≤ row → get_or rows s.next 0 ≡ row - 1 → false ≡ can_shift s row
-stands_there rows s row l le lo e =
-    let r = row_found rows s l le in
-    let same : source s ≡ row - 1 = sym r.1 ∙ e in
+pub stands_there : (s : Position) (row : ℕ) → s.next ≤ s.ordered → 1 ≤ row → source s ≡ row - 1 → false ≡ can_shift s row
+stands_there s row le lo same =
     let a : nat_le s.next s.ordered ≡ true = le-leb s.next s.ordered le in
     let b : nat_le 1 row ≡ true = le-leb 1 row lo in
     let c : (source s == row - 1) ≡ true = eq-eqb (source s) (row - 1) same in
     rw a (rw b (rw c refl))
 
 -- another row is asked for room
-pub asks_room : (rows : List ℕ) (s : Position) (row height : ℕ) (stack : List ℕ) → IsLocated rows s → s.next ≤ s.ordered → 1 ≤ row → (get_or rows s.next 0 ≡ row - 1 → ⊥) → stack_at s (row - 1) ≡ stack → get_or s.heights (row - 1) 0 ≡ height →
-    nat_lt (length stack) height ≡ can_shift s row
-asks_room rows s row height stack l le lo ne here high =
-    let r = row_found rows s l le in
-    let apart : source s ≡ row - 1 → ⊥ = λ q. ne (r.1 ∙ q) in
+pub asks_room : (s : Position) (row height : ℕ) (stack : List ℕ) → s.next ≤ s.ordered → 1 ≤ row → (source s ≡ row - 1 → ⊥) → stack_at s (row - 1) ≡ stack → get_or s.heights (row - 1) 0 ≡ height → nat_lt (length stack) height ≡ can_shift s row
+asks_room s row height stack le lo apart here high =
     let a : nat_le s.next s.ordered ≡ true = le-leb s.next s.ordered le in
     let b : nat_le 1 row ≡ true = le-leb 1 row lo in
     let c : (source s == row - 1) ≡ false = ne_eqb (source s) (row - 1) apart in

@@ -1,4 +1,4 @@
-ghost use Rattle.std.specs.Prelude.{◌≡◌, ℕ, ◌-◌, ◌+◌, ◌≤◌, ◌↔◌, List, [], ◌∷◌, ◌++◌, All, Contains, IsTrue, IsSome, IfSome, Some, length, slice_get};
+ghost use Rattle.std.specs.Prelude.{◌≡◌, ℕ, ◌-◌, ◌+◌, ◌<◌, ◌≤◌, ◌↔◌, List, [], ◌∷◌, ◌++◌, All, Contains, IsTrue, IsSome, IfSome, Some, length, slice_get};
 ghost use Rattle.std.specs.Bool.{OnTrue, OnFalse};
 ghost use Rattle.std.specs.List.Sorted.{IsStrictlyIncreasing};
 ghost use Rattle.crp_plan.specs.Bay.{Problem as Statement, IsProblem, IsAt, IsFinished, start, IsLegalRow};
@@ -259,6 +259,22 @@ impl Position {
         self.row_of[rank as usize] + 1
     }
 
+    /// The index of the row, from 0, in which a container stands that has not left yet and is to leave, and the ranks of that row from
+    /// bottom to top.
+    #[inline]
+    pub fn stack_of(&self, rank: u8) -> (usize, &[u8])
+        requires waits { self.now.place.next ≤ rank }
+        requires leaves { rank ≤ self.now.place.ordered }
+        ensures index { result.0 ≡ place rank self.now.place.stacks }
+        ensures there { result.0 < length self.now.place.heights }
+        ensures value { slice_get self.now.place.stacks result.0 ≡ Some result.1.now }
+        ensures low { length result.1.now ≤ 8 }
+        ensures ranks { All (λ rank. rank ≤ 96) result.1.now }
+    {
+        let index = self.row_of[rank as usize] as usize;
+        (index, self.stacks[index].ranks())
+    }
+
     /// Whether the row is there and has room.
     #[inline]
     pub fn fits(&self, row: u8) -> bool
@@ -275,10 +291,22 @@ impl Position {
         if self.next > self.ordered || row == 0 || row as usize > self.heights.len() {
             return false;
         }
-        let index = row as usize - 1;
-        if self.row_of[self.next as usize] as usize == index {
+        self.takes_from(self.row_of[self.next as usize] + 1, row)
+    }
+
+    /// Whether a relocation to a row that is there is legal, where the next container is to leave and stands in the row `from`.
+    #[inline]
+    pub fn takes_from(&self, from: u8, row: u8) -> bool
+        requires leaves { self.now.place.next ≤ self.now.place.ordered }
+        requires from { from ≡ source self.now.place + 1 }
+        requires counts { 1 ≤ row }
+        requires there { row ≤ length self.now.place.heights }
+        ensures { result ≡ can_shift self.now.place row }
+    {
+        if row == from {
             return false;
         }
+        let index = row as usize - 1;
         self.stacks[index].height() < self.heights[index] as usize
     }
 

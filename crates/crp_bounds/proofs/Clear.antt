@@ -1,5 +1,5 @@
 -- Which ranks still stand at their turn: those that stand above no lower one.
-use Rattle.std.proofs.Common.{◌≡◌, ◌≢◌, ℕ, suc, ◌+◌, ◌-◌, ◌<◌, ◌≤◌, true, false, ◌==◌, List, [], ◌∷◌, length, take, get_or, set, Some, slice_get, sym, ap, ◌∙◌, ⊎_elim, arith}
+use Rattle.std.proofs.Common.{◌≡◌, ◌≢◌, ℕ, suc, ◌+◌, ◌<◌, ◌≤◌, true, false, ◌==◌, List, [], ◌∷◌, length, take, get_or, set, Some, slice_get, sym, ap, ◌∙◌, ⊎_elim, arith}
 use Rattle.std.proofs.lemmas.Bool.{cases_Bool, cases_eq, cases_lt, eqb-true, or_cases, both_ways}
 use Rattle.std.proofs.lemmas.List.{get_or-take, length-take, take-take, get_or-set_same, get_or-set_other}
 use Rattle.std.proofs.lemmas.Option.{get_or_from_slice_get}
@@ -100,10 +100,10 @@ clear_test s k left leasts most again r l a c ge le =
 
 -- then it is the least of what is left of its stack, as that is read
 pub clear_least : (s : Position) (k row : ℕ) (stack left leasts : List ℕ) (most again : ℕ) → IsReached s → KnowsLeasts leasts s → Reads s k row stack left → Ahead s.ordered s.next s.heights s.stacks k left most again → IsCutOff s.ordered s.stacks k left →
-    s.next ≤ k → k ≤ s.ordered → get_or leasts k 0 ≡ k → least_ordered s.ordered (take (get_or left (row - 1) 0) stack) ≡ k
+    s.next ≤ k → k ≤ s.ordered → get_or leasts k 0 ≡ k → least_ordered s.ordered (take (get_or left row 0) stack) ≡ k
 clear_least s k row stack left leasts most again r l w a c ge le e =
-    let part : List ℕ = take (get_or left (row - 1) 0) stack in
-    let same : take (get_or left (place k s.stacks) 0) (get_or s.stacks (place k s.stacks) []) ≡ part = ap (λ j. take (get_or left j 0) (get_or s.stacks j [])) (sym w.index) ∙ ap (take (get_or left (row - 1) 0)) w.stack_is in
+    let part : List ℕ = take (get_or left row 0) stack in
+    let same : take (get_or left (place k s.stacks) 0) (get_or s.stacks (place k s.stacks) []) ≡ part = ap (λ j. take (get_or left j 0) (get_or s.stacks j [])) (sym w.index) ∙ ap (take (get_or left row 0)) w.stack_is in
     let held : holds k part ≡ true = ap (holds k) (sym same) ∙ (clear_test s k left leasts most again r l a c ge le).0 e in
     ⊎_elim (λ is. is) (λ ne. absurd (both_ways (holds k part) ((held_test s k row stack left most again r w a le).1 ne) held)) (cases_eq (least_ordered s.ordered part) k)
 

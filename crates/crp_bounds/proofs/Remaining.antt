@@ -150,24 +150,24 @@ remains_absent ordered next heights stacks k left most again still m once le fre
 
 -- a rank that is left, as its stack is read, of which so many are kept
 pub record Turned (s : Position) (k row : ℕ) (stack left : List ℕ) (most again still kept more : ℕ) : Type 0 where
-  pub within : length (take (get_or left (row - 1) 0) stack) - 1 - kept ≤ still
+  pub within : length (take (get_or left row 0) stack) - 1 - kept ≤ still
   pub counted_most : again + more ≤ stuck_now s
-  pub remains : Remains s.ordered s.next s.heights s.stacks (k + 1) (set left (row - 1) kept) (max most (least_ordered s.ordered (take kept (take (get_or left (row - 1) 0) stack)))) (again + more) (still - (length (take (get_or left (row - 1) 0) stack) - 1 - kept))
+  pub remains : Remains s.ordered s.next s.heights s.stacks (k + 1) (set left row kept) (max most (least_ordered s.ordered (take kept (take (get_or left row 0) stack)))) (again + more) (still - (length (take (get_or left row 0) stack) - 1 - kept))
 
 pub turned : (s : Position) (k row : ℕ) (stack left : List ℕ) (most again still kept more : ℕ) → Remains s.ordered s.next s.heights s.stacks k left most again still → IsReached s → k ≤ s.ordered → Reads s k row stack left →
-    All (λ rank. rank ≤ 96) stack → least_ordered s.ordered (take (get_or left (row - 1) 0) stack) ≡ k → take kept (take (get_or left (row - 1) 0) stack) ≡ below k (take (get_or left (row - 1) 0) stack) → kept < length (take (get_or left (row - 1) 0) stack) →
-    more ≡ count_by (nat_lt most) (above k (take (get_or left (row - 1) 0) stack)) → more ≤ 8 → Turned s k row stack left most again still kept more
+    All (λ rank. rank ≤ 96) stack → least_ordered s.ordered (take (get_or left row 0) stack) ≡ k → take kept (take (get_or left row 0) stack) ≡ below k (take (get_or left row 0) stack) → kept < length (take (get_or left row 0) stack) →
+    more ≡ count_by (nat_lt most) (above k (take (get_or left row 0) stack)) → more ≤ 8 → Turned s k row stack left most again still kept more
 turned s k row stack left most again still kept more m reached le r ranks least_is cut lower counts few =
-    let offered : ℕ = least_ordered s.ordered (take kept (take (get_or left (row - 1) 0) stack)) in
-    let t : Met s.ordered s.heights s.stacks k left most (row - 1) kept more offered =
+    let offered : ℕ = least_ordered s.ordered (take kept (take (get_or left row 0) stack)) in
+    let t : Met s.ordered s.heights s.stacks k left most row kept more offered =
     met_here s k row stack left most kept more offered r ranks ((held_test s k row stack left most again reached r m.ahead le).0 least_is) cut lower counts few refl in
-    let here : length (take (get_or left (row - 1) 0) stack) ≡ length (take (get_or left (row - 1) 0) (get_or s.stacks (row - 1) [])) = ap (λ l. length (take (get_or left (row - 1) 0) l)) (sym r.stack_is) in
-    let next = remains_met s.ordered s.next s.heights s.stacks k left most again still (row - 1) kept more offered m (bay_of s reached) le t in
+    let here : length (take (get_or left row 0) stack) ≡ length (take (get_or left row 0) (get_or s.stacks row [])) = ap (λ l. length (take (get_or left row 0) l)) (sym r.stack_is) in
+    let next = remains_met s.ordered s.next s.heights s.stacks k left most again still row kept more offered m (bay_of s reached) le t in
     let next_ahead = next.ahead in
     record {
-      within = omega (arith, met_blocks s.ordered s.next s.heights s.stacks k left most again still (row - 1) kept more offered m (bay_of s reached) le t, here);
+      within = omega (arith, met_blocks s.ordered s.next s.heights s.stacks k left most again still row kept more offered m (bay_of s reached) le t, here);
       counted_most = omega (arith, next_ahead.tallied);
-      remains = subst (λ n. Remains s.ordered s.next s.heights s.stacks (k + 1) (set left (row - 1) kept) (max most offered) (again + more) (still - (n - 1 - kept))) (sym here) next;
+      remains = subst (λ n. Remains s.ordered s.next s.heights s.stacks (k + 1) (set left row kept) (max most offered) (again + more) (still - (n - 1 - kept))) (sym here) next;
     }
 
 -- how it begins

@@ -22,23 +22,28 @@ fn offer_of(ordered: u8, leasts: &[u8; 97], height: u8, stack: &[u8]) -> u8
     least_of(ordered, leasts, stack)
 }
 
-/// Writes how many containers stand in each row, from 0, and answers the greatest of what all rows offer.
+/// Writes how many containers stand in each row, from 0, and answers the greatest of what all rows offer; `None` where a row is empty,
+/// so that it has a place for any container.
 #[inline]
-fn begun(position: &Position, leasts: &[u8; 97], left: &mut [u8; 16]) -> u8
+fn begun(position: &Position, leasts: &[u8; 97], left: &mut [u8; 16]) -> Option<u32>
     requires known { KnowsLeasts leasts.now position.now.place }
     requires empty { (r : ℕ) → slice_index left.old r ≡ 0 }
-    ensures left { (r : ℕ) → slice_index left.new r ≡ length (slice_index_or position.now.place.stacks r []) }
+    ensures left { IfSome result (λ _. (r : ℕ) → slice_index left.new r ≡ length (slice_index_or position.now.place.stacks r [])) }
     ensures long { length left.new ≡ 16 }
-    ensures most { result ≡ greatest (offers position.now.place.ordered position.now.place.heights position.now.place.stacks) }
+    ensures most { IfSome result (λ most. most ≡ greatest (offers position.now.place.ordered position.now.place.heights position.now.place.stacks)) }
+    ensures open { IfNone result (greatest (offers position.now.place.ordered position.now.place.heights position.now.place.stacks) ≡ 255) }
 {
-    let mut most: u8 = 0;
+    let mut most: u32 = 0;
     for row in 1..position.rows() + 1 {
         let height = position.height(row);
         let stack = position.stack(row);
+        if stack.is_empty() {
+            return None;
+        }
         left[row as usize - 1] = stack.len() as u8;
-        most = most.max(offer_of(position.ordered(), leasts, height, stack));
+        most = most.max(u32::from(offer_of(position.ordered(), leasts, height, stack)));
     }
-    most
+    Some(most)
 }
 
 /// Of the containers above a rank how many are greater than the greatest offer, and how many stand below the rank.
@@ -49,7 +54,7 @@ struct Cut {
 
 /// What stands above and below a rank in its stack.
 #[inline]
-fn cut_at_rank(rank: u8, most: u8, stack: &[u8]) -> Cut
+fn cut_at_rank(rank: u8, most: u32, stack: &[u8]) -> Cut
     requires short { length stack.now ≤ 8 }
     requires held { holds rank stack.now ≡ true }
     requires once { count_by (λ y. y == rank) stack.now ≤ 1 }
@@ -62,7 +67,7 @@ fn cut_at_rank(rank: u8, most: u8, stack: &[u8]) -> Cut
     let mut kept = stack.len() - 1;
     let mut more: u32 = 0;
     while stack[kept] != rank {
-        if most < stack[kept] {
+        if most < u32::from(stack[kept]) {
             more += 1;
         }
         kept -= 1;
@@ -108,7 +113,9 @@ pub fn again_reaching(
         return None;
     }
     let mut left = [0u8; 16];
-    let mut most = begun(position, leasts, &mut left);
+    let Some(mut most) = begun(position, leasts, &mut left) else {
+        return if_reached(0, need);
+    };
     let mut again: u32 = 0;
     let mut still = blocking;
     for rank in position.next()..ordered + 1 {
@@ -116,9 +123,8 @@ pub fn again_reaching(
             if most == 255 {
                 return if_reached(again, need);
             }
-            let row = position.row_of(rank);
-            let index = row as usize - 1;
-            let stack = &position.stack(row)[..left[index] as usize];
+            let (row, whole) = position.stack_of(rank);
+            let stack = &whole[..left[row] as usize];
             let Cut { more, kept } = cut_at_rank(rank, most, stack);
             again += more;
             if enough <= again {
@@ -128,8 +134,8 @@ pub fn again_reaching(
             if again + still < need {
                 return None;
             }
-            left[index] = kept as u8;
-            most = most.max(least_of(ordered, leasts, &stack[..kept]));
+            left[row] = kept as u8;
+            most = most.max(u32::from(least_of(ordered, leasts, &stack[..kept])));
         }
     }
     if_reached(again, need)

@@ -7,7 +7,7 @@ use Rattle.std.proofs.lemmas.Grind.{flat_map-append}
 use Rattle.std.proofs.lemmas.List.Folds.{list_any-append}
 use Rattle.crp_row.specs.Symbol.{Symbol}
 use Rattle.crp_row.specs.Symbol as symbol
-use Rattle.crp_row.specs.Rows.{kind_of, symbol_of, has_text}
+use Rattle.crp_row.specs.Rows.{kind_of, has_text}
 use Rattle.crp_row.specs.Reasons.{reasons_text}
 use Rattle.crp_tree.specs.Mark.{R}
 use Rattle.std.proofs.lemmas.Option.{none-some}
@@ -20,6 +20,7 @@ use Rattle.crp_tree.specs.Symbols.{symbols, symbols_of_each as symbols_of_each',
 use Rattle.crp_tree.specs.Trees.{Node, nodes, nodes_of_each, spelled, Fits, FitsEach}
 use Rattle.crp_tree.specs.Listed.{AreFit}
 use Rattle.crp_tree.proofs.Listed.{IsBranch, trees_of, branch_node, branch_of, list_fits}
+use Rattle.crp_cert.specs.Letters.{letter}
 use Rattle.crp_cert.specs.Script.{symbols_of, symbols_of_each, has_reasons, some_has_reasons}
 use Rattle.crp_cert.specs.ScriptFaults.{BeginsWithTree}
 use Rattle.crp_cert.specs.Reading.{tag_at, reasons_at}
@@ -224,7 +225,7 @@ mutual
       any_joined (symbols tree) (symbols_of_each' trees) ∙ ap (λ x. x || list_any has_text (map kind_of (symbols_of_each' trees))) (reasons_by_kinds tree) ∙ ap (λ x. has_reasons tree || x) (some_by_kinds trees)
 
 -- symbols without reasons are spelled by what they are
-pub letters_spelled : (ss : List Symbol) → list_any has_text (map kind_of ss) ≡ false → flat_map (λ kind. symbol_text (symbol_of kind [])) (map kind_of ss) ≡ flat_map symbol_text ss
+pub letters_spelled : (ss : List Symbol) → list_any has_text (map kind_of ss) ≡ false → map letter (map kind_of ss) ≡ flat_map symbol_text ss
 letters_spelled [] e = refl
 letters_spelled (symbol.CutB ∷ ss) e = ap (λ l. 66 ∷ l) (letters_spelled ss e)
 letters_spelled (symbol.CutL ∷ ss) e = ap (λ l. 76 ∷ l) (letters_spelled ss e)

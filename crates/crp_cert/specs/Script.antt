@@ -27,6 +27,10 @@ abbrev mutual
   symbols_of_each no_trees = []
   symbols_of_each (one_and tree trees) = symbols_of tree ++ symbols_of_each trees
 
+-- what stands before the symbols of a part of this name
+abbrev pub opening_of : List ℕ → List ℕ
+opening_of name = codes "part " ++ (name_text name ++ codes ": ")
+
 -- a part line with this name and these symbols
 abbrev pub symbols_line : List ℕ → List ℕ → List ℕ
 symbols_line name symbols = codes "part " ++ (name_text name ++ (codes ": " ++ (symbols ++ 10 ∷ [])))

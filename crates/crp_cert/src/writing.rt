@@ -1,5 +1,5 @@
 //! Writing a certificate.
-ghost use Rattle.std.specs.Prelude.{◌≡◌, ◌≤◌, ◌+◌, ℕ, ◌++◌, ◌∷◌, [], false, length, map, take, is_ok, if◌then◌else◌, IfOk, OnOk, OnErr, IsErrOf, IsTrue, ◌↔◌};
+ghost use Rattle.std.specs.Prelude.{◌≡◌, ◌≤◌, ◌+◌, ℕ, ◌++◌, ◌∷◌, [], length, map, take, is_ok, if◌then◌else◌, IfOk, OnOk, IsErrOf};
 ghost use Rattle.std.specs.Option.{option_copied};
 ghost use Rattle.std.specs.List.{flat_map, list_any};
 ghost use Rattle.std.specs.Io.KnownBytes.{Appends};
@@ -8,13 +8,14 @@ ghost use Rattle.crp_tree.specs.Claims.{path_in};
 ghost use Rattle.crp_tree.specs.Parts.{part_of};
 ghost use Rattle.crp_cert.specs.Text.{numbers_line, title_line, bay_line, size_line, stated_heights, size_of, row_line, claim_line, plan_line, head_text};
 ghost use Rattle.crp_tree.specs.Names.{name_text};
-ghost use Rattle.crp_cert.specs.Script.{symbols_of, has_reasons, part_line, end_line};
+ghost use Rattle.crp_cert.specs.Script.{symbols_of, has_reasons, opening_of, part_line, end_line};
 ghost use Rattle.crp_tree.specs.Spots.{symbol_text};
 ghost use Rattle.crp_row.specs.Reasons.{reasons_text};
-ghost use Rattle.crp_row.specs.Rows.{symbol_of, has_text};
+ghost use Rattle.crp_row.specs.Rows.{symbol_of};
 ghost use Rattle.crp_cert.specs.Writing.{are_equal, version_for, version_under, head_for, text_under, certificate_text, first_certificate_text};
 
 use crate::claim::Claim;
+use crate::letters::push_letters;
 use crate::version::Version;
 use arrayvec::ArrayVec;
 use crp_plan::{BayName, MAX_ROWS, Plan, Problem, Sink, WriteFault, tallest, write_text};
@@ -267,31 +268,6 @@ fn push_symbol(text: &mut Vec<u8>, kind: Kind, reasons: &[u8]) -> Result<(), All
     Ok(())
 }
 
-/// The letter of a symbol that has no reasons.
-fn letter_of(kind: Kind) -> u8
-    ensures { has_text kind ≡ false → symbol_text (symbol_of kind []) ≡ result ∷ [] }
-{
-    match kind {
-        Kind::CutB => b'B',
-        Kind::CutL => b'L',
-        Kind::CutR(_) => b'[',
-        Kind::Branch(_) => b'X',
-        Kind::Given => b'G',
-    }
-}
-
-/// Adds symbols none of which has reasons.
-fn push_letters(text: &mut Vec<u8>, kinds: &[Kind]) -> Result<(), AllocError>
-    requires { list_any has_text kinds.now ≡ false }
-    ensures { OnOk result (text.new.items ≡ text.old.items ++ flat_map (λ kind. symbol_text (symbol_of kind [])) kinds.now) }
-{
-    text.reserve(kinds.len())?;
-    for kind in kinds {
-        text.push_reserved(letter_of(*kind));
-    }
-    Ok(())
-}
-
 /// Adds the symbols of a tree.
 fn push_tree(text: &mut Vec<u8>, tree: &Tree) -> Result<(), AllocError>
     ensures { OnOk result (text.new.items ≡ text.old.items ++ symbols_of tree.now) }
@@ -306,13 +282,20 @@ fn push_tree(text: &mut Vec<u8>, tree: &Tree) -> Result<(), AllocError>
     Ok(())
 }
 
-/// Adds the line of a part.
-fn push_part(text: &mut Vec<u8>, part: &Part) -> Result<(), AllocError>
-    ensures { OnOk result (text.new.items ≡ text.old.items ++ part_line (part_of part.now)) }
+/// Adds what stands before the symbols of a part of this name. Where no memory is left, some of it may be added.
+pub fn push_opening(text: &mut Vec<u8>, name: &Name) -> Result<(), AllocError>
+    ensures { OnOk result (text.new.items ≡ text.old.items ++ opening_of name.now) }
 {
     text.extend_from_slice(b"part ")?;
-    push_name(text, part.name())?;
-    text.extend_from_slice(b": ")?;
+    push_name(text, name)?;
+    text.extend_from_slice(b": ")
+}
+
+/// Adds the line of a part. Where no memory is left, some of it may be added.
+pub fn push_part(text: &mut Vec<u8>, part: &Part) -> Result<(), AllocError>
+    ensures { OnOk result (text.new.items ≡ text.old.items ++ part_line (part_of part.now)) }
+{
+    push_opening(text, part.name())?;
     push_tree(text, part.tree())?;
     text.push(b'\n')?;
     Ok(())

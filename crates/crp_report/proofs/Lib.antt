@@ -12,3 +12,4 @@ pub mod Runs
 pub mod Counts
 pub mod Saying
 pub mod Firsts
+pub mod Shares

@@ -1,11 +1,15 @@
 -- What holds of a node where so much suffices, by its mark; and how a node closes.
-use Rattle.std.proofs.Common.{◌≡◌, ℕ, ◌+◌, ◌<◌, ◌≤◌, min, inl, List, [], ◌∷◌, ◌++◌, length, map, Option, Some, None, Result, Ok, Err, ap, arith}
+use Rattle.std.proofs.Common.{◌≡◌, ℕ, ◌+◌, ◌<◌, ◌≤◌, min, inl, List, [], ◌∷◌, ◌++◌, length, map, Option, Some, None, Result, Ok, Err, refl, sym, ap, ◌∙◌, append-nil, arith}
+use Rattle.std.specs.Prelude.{IfOk, IfSome}
 use Rattle.crp_plan.specs.Bay.{Position}
 use Rattle.crp_bounds.specs.Bounds.{blocking, look_ahead}
 use Rattle.crp_tree.specs.Mark.{B, X}
 use Rattle.crp_row.specs.Reasons.{AreReasons}
-use Rattle.crp_row.specs.declared.kind.Kind.TheVariants.{CutB, CutL, CutR}
-use Rattle.crp_tree.specs.Trees.{Node, cuts, value, least, least_value}
+use Rattle.crp_row.specs.Rows.{symbol_of}
+use Rattle.crp_row.specs.declared.kind.Kind.{Kind}
+use Rattle.crp_row.specs.declared.kind.Kind.TheVariants.{CutB, CutL, CutR, Branch, Given}
+use Rattle.crp_tree.specs.Symbols.{IsLeaf, leaf}
+use Rattle.crp_tree.specs.Trees.{Node, nodes, cuts, value, least, least_value, given_names, IsGivenAway}
 use Rattle.crp_tree.proofs.Shown.{least_most}
 use Rattle.crp_tree.proofs.Joined.{least_value-append}
 use Rattle.crp_search.specs.declared.frames.Closed.{Closed}
@@ -62,3 +66,23 @@ closes_from {path} {s} {text} more (Ok (Some closed)) h on ends =
       closed = record { leaf_is = leaf.leaf_is; fits = leaf.fits; given = λ away. let none = leaf.given away in absurd (omega arith); floor_is = leaf.floor_is };
       ended = tt;
     }
+
+-- ---- the names that are given
+
+-- a node that is closed and not given away gives none
+none_of_kind : (path : List ℕ) (s : Position) (text : List ℕ) (kind : Kind) → IsLeaf (symbol_of kind text) → (IsGivenAway (leaf (symbol_of kind text)) → length path < 0) → given_names (nodes path s (leaf (symbol_of kind text))) ≡ []
+none_of_kind path s text CutB is away = refl
+none_of_kind path s text CutL is away = refl
+none_of_kind path s text (CutR bound) is away = refl
+none_of_kind path s text (Branch count) is away = absurd is
+none_of_kind path s text Given is away = absurd (let none = away tt in omega arith)
+
+pub none_given : (before : ℕ) (path : List ℕ) (s : Position) (text : List ℕ) (found : Option Closed) → IfSome found (IsLeafAt 0 before path s text) → given_names (met_at path s text found) ≡ []
+none_given before path s text None is = refl
+none_given before path s text (Some closed) is = none_of_kind path s text closed.kind is.leaf_is is.given
+
+pub gives_none : {A : Type 0} {Meets : ℕ → A → Dealings → A → Dealings → List Node → Type 0} {Ends : ℕ → A → Dealings → A → Dealings → List Node → WalkEnd → Type 0} {a b : A} {d e : Dealings}
+    {floor : ℕ} {path : List ℕ} {s : Position} {text : List ℕ} (result : Result (Option Closed) WalkEnd) → Closes Meets Ends a d b e 0 floor path s text result →
+    (old new : List (List ℕ)) → new ≡ old → IfOk result (λ found. new ≡ old ++ given_names (met_at path s text found))
+gives_none (Err end) h old new same = tt
+gives_none {floor} {path} {s} {text} (Ok found) h old new same = same ∙ sym (append-nil old) ∙ ap (λ l. old ++ l) (sym (none_given floor path s text found h.closed))

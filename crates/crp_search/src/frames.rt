@@ -1,20 +1,21 @@
 //! The branches that a search is in.
-ghost use Rattle.std.specs.Prelude.{◌≡◌, ◌≤◌, [], length, IfSome, IfNone};
-ghost use Rattle.crp_bay.specs.Positions.{targets};
+ghost use Rattle.std.specs.Prelude.{◌≡◌, ◌+◌, ◌≤◌, [], length, IfSome, IfNone};
+ghost use Rattle.crp_bay.specs.Positions.{source, targets};
 ghost use Rattle.crp_bounds.specs.Moving.{IsMover};
 ghost use Rattle.crp_search.specs.Frames.{TakesTurn, digits};
 
 use crp_bay::Position;
 use crp_bounds::{Bounded, Mover};
 use crp_row::Kind;
-use crp_tree::Tree;
+use crp_tree::{Name, Tree};
 use std::marker::Model;
 
-/// A tree, and the least value of its cuts, or the problem's cap where none is below that.
+/// A tree, the least value of its cuts, or the problem's cap where none is below that, and the names that it gives to other parts.
 #[derive(Drop)]
 pub struct Found {
     pub tree: Tree,
     pub floor: u32,
+    pub given: Vec<Name>,
 }
 
 /// What is found where a node is not a branch: what its symbol is, and the floor of the walk with it, which the value of a cut may lower. The text of a cut by reasons is the one that was given last.
@@ -43,18 +44,22 @@ impl Model for Frame {
     ghost view = { λ f. record { mover = f.mover; left = digits 16 f.rows; count = f.count } };
 }
 
-/// The legal rows of a position as the digits of a number, and how many they are.
+/// The legal rows of a position as the digits of a number, and how many they are. The next container stands in the row `from`.
 #[inline(always)]
-fn legal_rows(position: &Position) -> (u64, u8)
+fn legal_rows(position: &Position, from: u8) -> (u64, u8)
+    requires from { position.now.place.next ≤ position.now.place.ordered → from ≡ source position.now.place + 1 }
     ensures rows { digits 16 result.0 ≡ targets position.now.place }
     ensures count { result.1 ≡ length (targets position.now.place) }
     ensures few { result.1 ≤ 12 }
 {
     let mut rows: u64 = 0;
     let mut count: u8 = 0;
+    if position.is_done() {
+        return (rows, count);
+    }
     let mut row = position.rows();
     while row > 0 {
-        if position.is_target(row) {
+        if position.takes_from(from, row) {
             rows = rows * 16 + row as u64;
             count += 1;
         }
@@ -72,12 +77,9 @@ impl Frame {
         ensures count { result.count ≡ length (targets place.now.place) }
         ensures few { length result.left ≤ 12 }
     {
-        let (rows, count) = legal_rows(place.position());
-        Frame {
-            mover: place.mover(),
-            count,
-            rows,
-        }
+        let mover = place.mover();
+        let (rows, count) = legal_rows(place.position(), mover.row);
+        Frame { mover, count, rows }
     }
 
     /// The container that moves there.

@@ -1,5 +1,5 @@
 //! Going on at a node that no bound closes.
-ghost use Rattle.std.specs.Prelude.{◌≡◌, ◌≤◌, IfOk, IfErr};
+ghost use Rattle.std.specs.Prelude.{◌≡◌, ◌≤◌, [], IfOk, IfErr, OnErr};
 ghost use Rattle.crp_thinning.specs.Symbols.{Closes};
 ghost use Rattle.crp_search.specs.Tries.{EndsTry, GoesOn, IfCloses, OnlyGranted};
 
@@ -77,6 +77,7 @@ impl Reasons {
         ensures shown { IfOk result (λ _. Closes position.now.place bound self.new.text.items) }
         ensures granted { IfOk result (λ _. OnlyGranted 0 self.old.thinning.most (L.view limit.old) (L.view limit.new)) }
         ensures ended { IfErr result (λ why. EndsTry self.old.thinning.most why (L.view limit.old) (L.view limit.new)) }
+        ensures open { OnErr result (self.new.text.items ≡ []) }
         ensures same { (L.problem limit.new ≡ L.problem limit.old) × (L.budget limit.new ≡ L.budget limit.old) × (L.puts limit.new ≡ L.puts limit.old) }
     {
         let Thinning { most, rows } = self.thinning;

@@ -6,11 +6,11 @@ ghost use Rattle.crp_bay.specs.Positions.{child, targets};
 ghost use Rattle.crp_bounds.specs.Bounds.{blocking as blocking_bound, look_ahead as look_ahead_bound};
 ghost use Rattle.crp_bounds.specs.Moving.{IsMover};
 ghost use Rattle.crp_tree.specs.Mark.{B};
-ghost use Rattle.crp_tree.specs.Trees.{IsGivenAway, Fits, Node, nodes, least_value};
+ghost use Rattle.crp_tree.specs.Trees.{IsGivenAway, Fits, Node, nodes, least_value, given_names};
 ghost use Rattle.crp_tree.specs.Parts.{IsKeptPart, nodes_of};
 ghost use Rattle.crp_search.specs.Limits.{dealt};
 ghost use Rattle.crp_search.specs.Searched.{AreFirstNodes};
-ghost use Rattle.crp_search.specs.Walked.{Closes};
+ghost use Rattle.crp_search.specs.Walked.{Closes, met_at};
 
 use crate::frames::{Closed, Found, Frame};
 use crate::limit::Limit;
@@ -37,7 +37,7 @@ fn cut(kind: Kind, value: u32, floor: u32) -> Closed
 }
 
 /// The cut by the look-ahead bound, where length plus that bound suffices. It counts no further than the floor.
-#[inline]
+#[inline(always)]
 fn reaching_cut(place: &Bounded, path: &[u8], bar: u64, floor: u32) -> Option<Closed>
     requires { length path.now ≤ 672 }
     ensures value { IfSome result (λ closed. closed ≡ record { kind = Kind.CutL; floor = min (length path.now + look_ahead_bound place.now.place) floor }) }
@@ -151,22 +151,46 @@ fn close<S: Seek, L: Limit>(
     close_below(problem, place, path, low, bar, floor, seek, limit)
 }
 
-/// Puts the name of the path where it has at most `split` rows, and answers whether it was accepted.
-#[inline(always)]
-fn give<L: Limit>(path: &[u8], split: u8, limit: &mut L) -> bool
-    requires { split ≤ 8 }
-    ensures short { IsTrue result → length path.now ≤ split }
-    ensures given { IsTrue result → L.puts limit.new ≡ L.puts limit.old ++ path.now ∷ [] }
-    ensures kept { IsFalse result → L.puts limit.new ≡ L.puts limit.old }
+/// Puts the name of a path, adds it to those that were given where it is accepted, and answers whether it was. It stands apart from the
+/// other steps, which have no room for a name to set up.
+#[inline(never)]
+fn put_name<L: Limit>(path: &[u8], limit: &mut L, given: &mut Vec<Name>) -> Result<bool, AllocError>
+    requires { length path.now ≤ 8 }
+    ensures given { IfOk result (λ put. IsTrue put → (L.puts limit.new ≡ L.puts limit.old ++ path.now ∷ []) × (given.new.items ≡ given.old.items ++ path.now ∷ [])) }
+    ensures kept { IfOk result (λ put. IsFalse put → (L.puts limit.new ≡ L.puts limit.old) × (given.new.items ≡ given.old.items)) }
+    ensures untried { IfErr result (λ _. L.puts limit.new ≡ L.puts limit.old) }
     ensures same { (L.problem limit.new ≡ L.problem limit.old) × (L.budget limit.new ≡ L.budget limit.old) × (L.view limit.new ≡ L.view limit.old) }
 {
-    if path.len() > split as usize {
-        return false;
-    }
+    given.reserve(1)?;
     let Some(name) = Name::from_rows(path) else {
         unreachable!()
     };
-    limit.put(name).is_ok()
+    if limit.put(name.copy()).is_err() {
+        return Ok(false);
+    }
+    given.push_reserved(name);
+    Ok(true)
+}
+
+/// Puts the name of the path where it has at most `split` rows, and answers whether it was accepted.
+#[inline(always)]
+fn give<L: Limit>(
+    path: &[u8],
+    split: u8,
+    limit: &mut L,
+    given: &mut Vec<Name>,
+) -> Result<bool, AllocError>
+    requires { split ≤ 8 }
+    ensures short { IfOk result (λ put. IsTrue put → length path.now ≤ split) }
+    ensures given { IfOk result (λ put. IsTrue put → (L.puts limit.new ≡ L.puts limit.old ++ path.now ∷ []) × (given.new.items ≡ given.old.items ++ path.now ∷ [])) }
+    ensures kept { IfOk result (λ put. IsFalse put → (L.puts limit.new ≡ L.puts limit.old) × (given.new.items ≡ given.old.items)) }
+    ensures untried { IfErr result (λ _. L.puts limit.new ≡ L.puts limit.old) }
+    ensures same { (L.problem limit.new ≡ L.problem limit.old) × (L.budget limit.new ≡ L.budget limit.old) × (L.view limit.new ≡ L.view limit.old) }
+{
+    if path.len() > split as usize {
+        return Ok(false);
+    }
+    put_name(path, limit, given)
 }
 
 /// Closes the child at a legal row, whose path this is. `None` exactly where an expansion was granted for it: then the relocation
@@ -197,8 +221,8 @@ fn close_child<S: Seek, L: Limit>(
     ensures down { IfOk result (λ found. IfNone found (place.new ≡ record { place = child place.old.place row; trail = place.old.place ∷ place.old.trail })) }
     ensures same { (L.problem limit.new ≡ L.problem limit.old) × (L.budget limit.new ≡ L.budget limit.old) }
 {
-    let below = path.len() as u32 + place.blocking_after(mover, row);
     let bar = seek.enough(limit);
+    let below = path.len() as u32 + place.blocking_after(mover, row);
     if u64::from(below) >= bar {
         return Ok(Some(cut(Kind::CutB, below, floor)));
     }
@@ -223,6 +247,7 @@ fn walk_child<S: Seek, L: Limit>(
     seek: &mut S,
     limit: &mut L,
     split: u8,
+    given: &mut Vec<Name>,
 ) -> Result<Option<Closed>, WalkEnd>
     requires problem { problem.now ≡ L.problem limit.old }
     requires is_problem { IsProblem problem.now }
@@ -233,11 +258,13 @@ fn walk_child<S: Seek, L: Limit>(
     requires split { split ≤ 8 }
     ensures closes { Closes (S.meets problem.now) (S.ends problem.now) seek.old (dealt (L.view limit.old) (L.puts limit.old)) seek.new (dealt (L.view limit.new) (L.puts limit.new))
         (split + 1) floor path.now (child place.old.place row) (S.text seek.new) result }
+    ensures given { IfOk result (λ found. given.new.items ≡ given.old.items ++ given_names (met_at path.now (child place.old.place row) (S.text seek.new) found)) }
     ensures back { IfOk result (λ found. IfSome found (λ closed. place.new ≡ place.old)) }
     ensures down { IfOk result (λ found. IfNone found (place.new ≡ record { place = child place.old.place row; trail = place.old.place ∷ place.old.trail })) }
     ensures same { (L.problem limit.new ≡ L.problem limit.old) × (L.budget limit.new ≡ L.budget limit.old) }
 {
-    if give(path, split, limit) {
+    let put = give(path, split, limit, given)?;
+    if put {
         return Ok(Some(Closed {
             kind: Kind::Given,
             floor,
@@ -276,6 +303,7 @@ fn walk_from<S: Seek, L: Limit>(
     ensures fits { IfOk result (λ found. Fits place.old.place found.tree) }
     ensures own { IfOk result (λ found. IsGivenAway found.tree → ⊥) }
     ensures floor { IfOk result (λ found. found.floor ≡ least_value (cap problem.now) (nodes path.old.items place.old.place found.tree)) }
+    ensures given { IfOk result (λ found. found.given.items ≡ given_names (nodes path.old.items place.old.place found.tree)) }
     ensures met { IfOk result (λ found. S.meets problem.now split seek.old (dealt (L.view limit.old) (L.puts limit.old)) seek.new (dealt (L.view limit.new) (L.puts limit.new))
         (nodes path.old.items place.old.place found.tree)) }
     ensures end { IfErr result (λ end. (met : List Node) × AreFirstNodes path.old.items place.old.place met
@@ -284,6 +312,7 @@ fn walk_from<S: Seek, L: Limit>(
 {
     let mut floor = problem.cap();
     let mut list = Row::new(alloc);
+    let mut given = Vec::new(alloc);
     list.make_room()?;
     let first = close(problem, place, path.as_slice(), floor, seek, limit)?;
     if let Some(closed) = first {
@@ -291,6 +320,7 @@ fn walk_from<S: Seek, L: Limit>(
         return Ok(Found {
             tree: Tree::from_row(list),
             floor: closed.floor,
+            given,
         });
     }
     let mut above = Vec::new(alloc);
@@ -302,6 +332,7 @@ fn walk_from<S: Seek, L: Limit>(
                 return Ok(Found {
                     tree: Tree::from_row(list),
                     floor,
+                    given,
                 });
             };
             frame = upper;
@@ -322,6 +353,7 @@ fn walk_from<S: Seek, L: Limit>(
             seek,
             limit,
             split,
+            &mut given,
         )?;
         let Some(closed) = found else {
             let below = Frame::at(place);
@@ -378,5 +410,5 @@ pub fn walk<S: Seek, L: Limit>(
         limit,
         split.min(MAX_NAME as u8),
     )?;
-    Ok(Part::new(alloc, problem, name, found.tree, found.floor)?)
+    Ok(Part::giving(problem, name, found.tree, found.floor, found.given))
 }

@@ -60,13 +60,24 @@ impl Part {
         ensures part { IfOk result IsKeptPart }
     {
         let given = names_given(alloc, problem, &name, &tree)?;
-        Ok(Part {
+        Ok(Part::giving(problem, name, tree, floor, given))
+    }
+
+    /// The same, where the names that it gives are known. It takes no memory.
+    pub fn giving(problem: &Problem, name: Name, tree: Tree, floor: u32, given: Vec<Name>) -> Part
+        requires part { IsPart problem.now (record { name = name; tree = tree }) }
+        requires floor { floor ≡ least_value (cap problem.now) (nodes_in problem.now (record { name = name; tree = tree })) }
+        requires given { given.items ≡ given_by problem.now (record { name = name; tree = tree }) }
+        ensures value { result ≡ record { problem = problem.now; name = name; tree = tree; floor = floor } }
+        ensures part { IsKeptPart result }
+    {
+        Part {
             problem: problem.copy(),
             name,
             tree,
             floor,
             given,
-        })
+        }
     }
 
     /// The problem whose search it is a part of.

@@ -57,16 +57,19 @@ pub fn pass_trees(rest: &mut Rest<'_>, count: usize)
     requires { (behind : List Symbol) × ComeFirst count rest.old behind }
     ensures { ComeFirst count rest.old rest.new }
 {
+    // A value of its own, which is not written back at each symbol.
+    let mut own = rest.again();
     let mut left = count;
     while left > 0 {
-        let Some((kind, _)) = rest.next() else {
+        let Some((kind, _)) = own.next() else {
             unreachable!()
         };
         left -= 1;
         if let Kind::Branch(below) = kind {
             // For its contract alone: so many are left at most.
-            let _most = rest.len();
+            let _most = own.len();
             left += below as usize;
         }
     }
+    *rest = own;
 }

@@ -10,6 +10,10 @@ const LOOKS: u64 = 16;
 /// The longest sleep of a worker, in microseconds.
 const MAX_SLEEP: u64 = 1000;
 
+/// How many names are to lie ready for each worker that waits: one that is below paths of 8 rows gives none away for long, and another may
+/// take the name that was put for this one.
+const READY: u64 = 4;
+
 /// The names that were put and not searched yet, how many of them nobody took, whether a part was lost, how often an idle worker had
 /// reason to look again, and how many workers wait now or are about to begin.
 #[derive(Drop)]
@@ -44,9 +48,10 @@ impl OpenWork {
         self.calls.load(Ordering::SeqCst)
     }
 
-    /// Whether a worker waits for a name for which none lies ready.
+    /// Whether a worker waits for a name, and fewer lie ready than are to lie ready for it.
     pub(crate) fn is_awaited(&self) -> bool {
-        self.waiting.load(Ordering::Relaxed) > self.untaken.load(Ordering::Relaxed)
+        let wanted = self.waiting.load(Ordering::Relaxed).saturating_mul(READY);
+        wanted > self.untaken.load(Ordering::Relaxed)
     }
 
     /// So many workers are about to begin, and wait until they do.

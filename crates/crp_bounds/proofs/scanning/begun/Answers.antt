@@ -1,11 +1,11 @@
 use Rattle.std.proofs.Common.{◌≡◌, ℕ, suc, ◌+◌, ◌-◌, ◌<◌, List, [], drop, length, get_or, ap, sym, ◌∙◌, ⊎_elim, arith, length-set}
-use Rattle.std.proofs.lemmas.Bool.{cases_lt}
+use Rattle.std.proofs.lemmas.Bool.{cases_lt, eqb-true}
 use Rattle.std.proofs.lemmas.List.{drop_all}
 use Rattle.std.proofs.lemmas.Option.{get_or_from_slice_get}
 use Rattle.crp_bay.proofs.Reaching.{reached_same_rows}
 use Rattle.crp_bounds.specs.Offers.{offer, offers, greatest}
 use Rattle.crp_bounds.proofs.Tallying.{length_offers}
-use Rattle.crp_bounds.proofs.Scanned.{beyond, offers_at, greatest_drop, one_more}
+use Rattle.crp_bounds.proofs.Scanned.{beyond, offers_at, greatest_drop, one_more, open_row}
 use Rattle.crp_bounds.proofs.scanning.begun.Goals as goal
 
 pub loop-row-preserved : goal.loop-row-preserved
@@ -26,6 +26,11 @@ loop-row-preserved c =
       long = length-set c.loop-row.left (row - 1) (length c.stack-stack.result.now) ∙ inv.long;
       most = omega (arith, inv.most, greatest_drop all (row - 1) there, ap (λ n. greatest (drop n all)) next, is, c.max-most.ensures);
     }
+
+pub returns-then-is_empty-clause-open : goal.returns-then-is_empty-clause-open
+returns-then-is_empty-clause-open c =
+    let s = c.args.position.now.place in
+    open_row s (c.loop-row.row - 1) c.height-height.result c.stack-stack.result.now c.stack-stack.ensures.reached c.height-height.ensures.value c.stack-stack.ensures.value (eqb-true (length c.stack-stack.result.now) 0 (sym c.is_empty.ensures ∙ c.if-is_empty.true))
 
 pub returns-clause-left : goal.returns-clause-left
 returns-clause-left c r = ⊎_elim

@@ -4,7 +4,7 @@ use Rattle.crp_plan.proofs.Lists.{one_if}
 use Rattle.crp_bounds.proofs.Blocked.{one_if-le}
 use Rattle.crp_bounds.proofs.Tallying.{one_down, found_at}
 use Rattle.crp_bounds.proofs.scanning.cut_at_rank.Goals as goal
-use Rattle.crp_bounds.proofs.scanning.cut_at_rank.Goals.{then-most-stack, else-most-stack}
+use Rattle.crp_bounds.proofs.scanning.cut_at_rank.Goals.{then-most-from, else-most-from}
 
 pub loop-kept-preserved : goal.loop-kept-preserved
 loop-kept-preserved c =
@@ -12,9 +12,9 @@ loop-kept-preserved c =
     let d = one_down (nat_lt c.args.most) c.args.stack.now c.loop-kept.kept c.args.rank inv.within c.loop-kept-test.true inv.free c.requires.held in
     let lo = d.0 in
     let within = inv.within in let counted = inv.counted in let few = inv.few in
-    let more : c.if-most-stack.more ≡ one_if (nat_lt c.args.most (get_or c.args.stack.now c.loop-kept.kept 0)) + c.loop-kept.more = elim c.if-most-stack.branch [
-      | then-most-stack w ↦ let e = w.more-is in let lt = w.if-most-stack.true in omega (arith, e, ap one_if (lt-ltb c.args.most (get_or c.args.stack.now c.loop-kept.kept 0) lt))
-      | else-most-stack w ↦ let e = w.more-is in let ge = w.if-most-stack.false in omega (arith, e, ap one_if (le-ltb c.args.most (get_or c.args.stack.now c.loop-kept.kept 0) ge))
+    let more : c.if-most-from.more ≡ one_if (nat_lt c.args.most (get_or c.args.stack.now c.loop-kept.kept 0)) + c.loop-kept.more = elim c.if-most-from.branch [
+      | then-most-from w ↦ let e = w.more-is in let lt = w.if-most-from.true in omega (arith, e, ap one_if (lt-ltb c.args.most (get_or c.args.stack.now c.loop-kept.kept 0) (omega (arith, lt, c.from.ensures))))
+      | else-most-from w ↦ let e = w.more-is in let ge = w.if-most-from.false in omega (arith, e, ap one_if (le-ltb c.args.most (get_or c.args.stack.now c.loop-kept.kept 0) (omega (arith, ge, c.from.ensures))))
     ] in
     let one : one_if (nat_lt c.args.most (get_or c.args.stack.now c.loop-kept.kept 0)) ≤ 1 = one_if-le (nat_lt c.args.most (get_or c.args.stack.now c.loop-kept.kept 0)) in
     record {

@@ -2,8 +2,8 @@ use Rattle.std.proofs.Common.{◌≡◌, ◌++◌, All, length, ap, ◌∙◌, s
 use Rattle.crp_tree.specs.Trees.{nodes, IsInPlace}
 use Rattle.crp_search.proofs.walking.walk.Goals as goal
 
-pub new-requires-clause-part : goal.new-requires-clause-part
-new-requires-clause-part g c =
+pub giving-requires-clause-part : goal.giving-requires-clause-part
+giving-requires-clause-part g c =
     let path : c.try_extend_from_slice.new.self.items ≡ c.args.name = c.in-Ok.ensures.ok ∙ ap (λ l. l ++ c.rows.result.now) c.new-path.ensures ∙ c.rows.ensures.value in
     record {
       short = omega (arith, c.rows.ensures.few, ap length c.rows.ensures.value);

@@ -1,4 +1,4 @@
-use Rattle.std.proofs.Common.{◌≡◌, suc, ◌<◌, ◌≤◌, List, [], ◌∷◌, ◌++◌, length, None, refl, sym, ap, ◌∙◌, subst, arith, lit<, length-append, append-nil}
+use Rattle.std.proofs.Common.{◌≡◌, suc, ◌<◌, ◌≤◌, List, [], ◌∷◌, ◌++◌, length, None, Some, refl, sym, ap, ◌∙◌, subst, arith, lit<, length-append, append-nil}
 use Rattle.std.specs.Prelude.{reverse}
 use Rattle.std.proofs.lemmas.List.{nil_from_length}
 use Rattle.std.proofs.lemmas.Result.{err_from_is_err_and}
@@ -9,13 +9,14 @@ use Rattle.crp_bounds.specs.Moving.{IsMover}
 use Rattle.crp_row.specs.Symbol as symbol
 use Rattle.crp_row.specs.Rows.{symbol_of}
 use Rattle.crp_tree.specs.Symbols.{leaf, leaf_symbols}
-use Rattle.crp_tree.specs.Trees.{nodes, IsGivenAway, least_value}
+use Rattle.crp_tree.specs.Trees.{nodes, IsGivenAway, least_value, given_names}
+use Rattle.crp_tree.proofs.Nodes.{given_names-append}
 use Rattle.crp_tree.proofs.Followed.{pop_back, back_again}
 use Rattle.crp_search.specs.Frames.{Branching as Frame, TakesTurn}
 use Rattle.crp_search.specs.Limits.{dealt}
 use Rattle.crp_search.specs.Searched.{AreFirstNodes}
 use Rattle.crp_search.specs.Walked.{met_at, closing}
-use Rattle.crp_search.proofs.Closing.{floor_branch, floor_more}
+use Rattle.crp_search.proofs.Closing.{floor_branch, floor_more, none_given}
 use Rattle.crp_search.proofs.UnderWay.{standing, stands_at, sets_out, legal_turn, turn_moves, turn_leads, still_short, stays, goes_down, goes_up, ends, ends_as, first_nodes, none_yet, leaf_tree, carried, reverse_push, one_less_left}
 use Rattle.crp_search.proofs.Owing.{left, owed, owes_less, owes_below, owes_above}
 use Rattle.crp_search.proofs.walking.walk_from.Goals as goal
@@ -47,6 +48,15 @@ returns-in-Some-clause-own g c =
     let closed = closes.closed in
     subst (λ t. IsGivenAway t → ⊥) same (λ away. let none = closed.given away in absurd (omega arith))
 
+pub returns-in-Some-clause-given : goal.returns-in-Some-clause-given
+returns-in-Some-clause-given g c =
+    let one = closing (g.S.Seek.text c.close.new.seek) c.in-Some.closed in
+    let same = leaf_tree c.make_room.new.self.symbols c.push.new.self.symbols c.from_row.result one (c.make_room.ensures.symbols ∙ c.new-list.ensures)
+    (c.in_ok-push.ensures.symbols ∙ ap (λ t. c.make_room.new.self.symbols ++ symbol_of c.in-Some.closed.kind t ∷ []) c.text.ensures) c.from_row.ensures in
+    let closes = rw (c.in-Some.is, c.as_slice.ensures.value) at c.in_ok-first.ensures.closes in
+    let none = none_given c.cap-floor.result c.args.path.now.items c.args.place.now.place (g.S.Seek.text c.close.new.seek) (Some c.in-Some.closed) closes.closed in
+    subst (λ t. c.new-given.result.items ≡ given_names (nodes c.args.path.now.items c.args.place.now.place t)) same (c.new-given.ensures.items ∙ sym none)
+
 pub returns-in_err-push-clause-end : goal.returns-in_err-push-clause-end
 returns-in_err-push-clause-end g c =
     let e = err_from_is_err_and c.from_residual-in_err-push.result c.from_residual-in_err-push.ensures.1 in
@@ -71,6 +81,7 @@ loop-row-init g c =
       under_way = carried refl refl refl (ap reverse c.new-above.ensures.items) list_is begun;
       meets = branched;
       floor_is = c.cap-floor.ensures.value;
+      given_is = c.new-given.ensures.items;
     }
 
 pub from_row-requires-in_default-pop : goal.from_row-requires-in_default-pop
@@ -89,6 +100,7 @@ returns-in_default-pop g c =
       fits = end.fits;
       own = end.own;
       floor = c.loop-row.invariant.floor_is ∙ ap (least_value (cap c.args.problem.now)) end.nodes_are;
+      given = c.loop-row.invariant.given_is ∙ ap given_names end.nodes_are;
       met = subst meets end.nodes_are c.loop-row.invariant.meets;
       end = tt;
       same = c.loop-row.invariant.same;
@@ -120,6 +132,7 @@ loop-row-preserved-in_default-turn g c =
       under_way = carried popped stood refl refl refl back.under_way;
       meets = c.loop-row.invariant.meets;
       floor_is = c.loop-row.invariant.floor_is;
+      given_is = c.loop-row.invariant.given_is;
     }
 
 pub returns-in_err-make_room-2-clause-end : goal.returns-in_err-make_room-2-clause-end
@@ -171,16 +184,19 @@ loop-row-preserved-in_default-found g c =
     let down = rw c.in_default-found.is at c.in_ok-found.ensures.down in
     let closes = rw c.in_default-found.is at c.in_ok-found.ensures.closes in
     let branched = closes.met c.args.split (omega arith) in
+    let own = met_at path next (g.S.Seek.text c.walk_child.new.seek) None in
+    let told = rw c.in_default-found.is at c.in_ok-found.ensures.given in
     let list_is : c.push_reserved-in_default-found.new.self.symbols ≡ c.loop-row.list.symbols ++ symbol.Branch c.at-below.result.count ∷ [] = c.push_reserved-in_default-found.ensures ∙ ap (λ l. l ++ symbol_of c.kind-in_default-found.result [] ∷ []) c.make_room-in-loop-row.ensures.symbols ∙ ap (λ k. c.loop-row.list.symbols ++ symbol_of k [] ∷ []) c.kind-in_default-found.ensures in
     let gone = goes_down c.loop-row.invariant.under_way c.in-Some-turn.ensures.turn (standing c.push-in-loop-row.new.self.items c.walk_child.new.place) c.at-below.result path (g.S.Seek.text c.walk_child.new.seek) _ c.loop-row.invariant.is_problem c.as_slice-in-loop-row.ensures.value c.push-in-loop-row.ensures.items down c.at-below.ensures.rows c.at-below.ensures.mover c.at-below.ensures.count in
     record {
       is_problem = c.loop-row.invariant.is_problem;
       same = (c.walk_child.ensures.same.0 ∙ c.loop-row.invariant.same.0, c.walk_child.ensures.same.1 ∙ c.loop-row.invariant.same.1);
       ready = g.met.S.Seek.still c.args.problem.now c.args.split _ _ _ _ _ branched c.loop-row.invariant.ready;
-      met = c.loop-row.invariant.met ++ met_at path next (g.S.Seek.text c.walk_child.new.seek) None;
+      met = c.loop-row.invariant.met ++ own;
       under_way = carried refl refl c.replace.ensures.after rev list_is gone;
       meets = g.met.S.Seek.onward c.args.problem.now c.args.split _ _ _ _ _ _ _ _ c.loop-row.invariant.meets branched;
       floor_is = floor_branch (cap c.args.problem.now) c.loop-row.floor c.loop-row.invariant.met path next c.loop-row.invariant.floor_is;
+      given_is = told ∙ ap (λ l. l ++ given_names own) c.loop-row.invariant.given_is ∙ sym (given_names-append c.loop-row.invariant.met own);
     }
 
 pub loop-row-smaller : goal.loop-row-smaller
@@ -202,6 +218,7 @@ loop-row-preserved g c =
     c.in_ok-push-2.ensures.symbols ∙ ap (λ t. c.make_room-in-loop-row.new.self.symbols ++ symbol_of c.in-Some-found.closed.kind t ∷ []) c.text-in-loop-row.ensures ∙ ap (λ l. l ++ one ∷ []) c.make_room-in-loop-row.ensures.symbols in
     let stayed = stays c.loop-row.invariant.under_way c.in-Some-turn.ensures.turn path one (c.as_slice-in-loop-row.ensures.value ∙ c.push-in-loop-row.ensures.items) closed.leaf_is closed.fits in
     let own = nodes path (child c.loop-row.place.place c.in-Some-turn.row) (leaf one) in
+    let told = rw c.in-Some-found.is at c.in_ok-found.ensures.given in
     record {
       is_problem = c.loop-row.invariant.is_problem;
       same = (c.walk_child.ensures.same.0 ∙ c.loop-row.invariant.same.0, c.walk_child.ensures.same.1 ∙ c.loop-row.invariant.same.1);
@@ -210,6 +227,7 @@ loop-row-preserved g c =
       under_way = carried popped back refl (ap reverse c.make_room-in-loop-row-2.ensures.items) list_is stayed;
       meets = g.met.S.Seek.onward c.args.problem.now c.args.split _ _ _ _ _ _ _ _ c.loop-row.invariant.meets own_met;
       floor_is = floor_more (cap c.args.problem.now) c.loop-row.floor c.in-Some-found.closed.floor c.loop-row.invariant.met own c.loop-row.invariant.floor_is closed.floor_is;
+      given_is = told ∙ ap (λ l. l ++ given_names own) c.loop-row.invariant.given_is ∙ sym (given_names-append c.loop-row.invariant.met own);
     }
 
 pub returns-in_err-push-2-clause-end : goal.returns-in_err-push-2-clause-end

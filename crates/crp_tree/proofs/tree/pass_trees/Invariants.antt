@@ -4,7 +4,7 @@ use Rattle.crp_tree.specs.Symbols.{ComeFirst}
 use Rattle.crp_tree.proofs.tree.pass_trees.Given as goal
 
 abbrev pub invariant-loop-left : goal.invariant-loop-left
-invariant-loop-left l = (behind : List Symbol) → ComeFirst l.count l.fn.rest behind → ComeFirst l.left l.rest behind
+invariant-loop-left l = (behind : List Symbol) → ComeFirst l.count l.fn.rest behind → ComeFirst l.left l.own behind
 
 abbrev pub decreases-loop-left : goal.decreases-loop-left
-decreases-loop-left l = length l.rest
+decreases-loop-left l = length l.own
