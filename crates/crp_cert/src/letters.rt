@@ -9,17 +9,16 @@ use std::alloc::AllocError;
 /// How many letters are made before they are added.
 const BLOCK: usize = 1024;
 
-/// The first letter of a symbol, which is all that is spelled of one without reasons.
+/// The first letter of a symbol, which is all that is spelled of one without reasons: as a sum, so that a compiler can make several
+/// at once.
 fn letter_of(kind: Kind) -> u8
     ensures { result ≡ letter kind }
 {
-    match kind {
-        Kind::CutB => b'B',
-        Kind::CutL => b'L',
-        Kind::CutR(_) => b'[',
-        Kind::Branch(_) => b'X',
-        Kind::Given => b'G',
-    }
+    let is_l = matches!(kind, Kind::CutL) as u8;
+    let is_r = matches!(kind, Kind::CutR(_)) as u8;
+    let is_x = matches!(kind, Kind::Branch(_)) as u8;
+    let is_g = matches!(kind, Kind::Given) as u8;
+    b'B' + is_l * (b'L' - b'B') + is_r * (b'[' - b'B') + is_x * (b'X' - b'B') + is_g * (b'G' - b'B')
 }
 
 /// Makes the first letters of symbols at the front of a block: apart from the text, so that a compiler can make several at once.
