@@ -37,6 +37,7 @@ shape_there p x s ok is a =
     let place : is.place ≡ s = same_at p x.name is.place s ok is.is_at a in
     subst (λ t. HasShape x.name t x.tree) place is.shape
 
+-- the same of a part that holds its own problem
 pub shape_at_name : (x : ProblemPart) (s : Position) → IsKeptPart x → IsAt x.problem x.name s → HasShape x.name s x.tree
 shape_at_name x s k a = shape_there x.problem (part_of x) s k.is_problem k.is_part a
 
