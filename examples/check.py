@@ -6,10 +6,16 @@ import re
 import sys
 
 NUMBER = rb"(0|[1-9][0-9]*)"
+BEYOND = 10 ** 9  # above every limit of a certificate
 
 
 class Fault(Exception):
     pass
+
+
+def read_number(digits):
+    """The number; of one with ten digits or more only that it is too large, which takes no time."""
+    return int(digits) if len(digits) < 10 else BEYOND
 
 
 def settle(ordered, position):
@@ -120,7 +126,7 @@ def shown(heights, ordered, position, text):
         words = family[0][:-1] if family else ""
         if not family or re.search(r"\b0[0-9]", words):
             return None
-        gained = gain(heights, ordered, position, [[int(c) for c in chain.split(".") if c] for chain in words.split(",")])
+        gained = gain(heights, ordered, position, [[read_number(c) for c in chain.split(".") if c] for chain in words.split(",")])
         return None if gained is None else (blocking(heights, ordered, position) + gained, text[family.end():])
     if kind not in ("R", "F") or rank > ordered:
         return None
@@ -153,8 +159,8 @@ def read_head(lines):
 
     version = int(line(1, "C1", rb"CRP-CERT ([123])")[0])
     block, bay = line(2, "C1", rb"bay ([\x21-\x7e]{1,17}) " + NUMBER)
-    need(1 <= int(bay) <= 9999, "C1 at line 2")
-    rows, tiers, ordered, count = map(int, line(3, "C2", rb"size " + b" ".join([NUMBER] * 4)))
+    need(1 <= read_number(bay) <= 9999, "C1 at line 2")
+    rows, tiers, ordered, count = map(read_number, line(3, "C2", rb"size " + b" ".join([NUMBER] * 4)))
     need(1 <= rows <= 12 and 1 <= tiers <= 8 and count <= rows * tiers and ordered <= count, "C2 at line 3")
     at, heights = 4, [tiers] * rows
     if version > 1:
@@ -163,7 +169,7 @@ def read_head(lines):
         at = 5
     stacks, seen = [], set()
     for height in heights:
-        stack = tuple(map(int, line(at, "C3", rb"row((?: " + NUMBER.replace(b"(", b"(?:") + rb")*)")[0].split()))
+        stack = tuple(map(read_number, line(at, "C3", rb"row((?: " + NUMBER.replace(b"(", b"(?:") + rb")*)")[0].split()))
         need(len(stack) <= height, f"C3 at line {at}")
         for rank in stack:
             need(1 <= rank <= count and rank not in seen, f"C3 at line {at}")
@@ -172,13 +178,13 @@ def read_head(lines):
         at += 1
     need(len(seen) == count, f"C3 at line {at - 1}")
     kind, least = line(at, "C4", rb"(at least|first) " + NUMBER)
-    cap = ordered * (tiers - 1) + 1
-    need(int(least) <= cap and (kind == b"at least" or version > 1), f"C4 at line {at}")
+    least, cap = read_number(least), ordered * (tiers - 1) + 1
+    need(least <= cap and (kind == b"at least" or version > 1), f"C4 at line {at}")
     plan = line(at + 1, "C5", rb"plan( -|(?: (?:[0-9]|[1-9][0-9]))*)")[0]
     plan = None if plan == b" -" else tuple(map(int, plan.split()))
     need(plan is None or len(plan) <= 672, f"C5 at line {at + 1}")
     bay_words = b"bay " + block + b" " + bay
-    return (bay_words, heights, ordered, settle(ordered, (1, tuple(stacks))), kind, int(least), cap, plan, version), at + 1
+    return (bay_words, heights, ordered, settle(ordered, (1, tuple(stacks))), kind, least, cap, plan, version), at + 1
 
 
 def plan_fault(heights, ordered, position, plan):
