@@ -4,11 +4,22 @@ from __future__ import annotations
 import os
 import subprocess
 from dataclasses import dataclass
-from typing import Sequence, Tuple, Union
+from numbers import Integral, Real
+from typing import Any, Dict, List, Sequence, Tuple, Union
 
 from .report import Report, parse_report
 
 Value = Union[str, int, float, "os.PathLike[str]"]
+
+# The options of `crp solve`, by what they take besides a text.
+KINDS: Dict[str, Any] = {
+    **dict.fromkeys(("first", "deepen", "chains", "strong", "quiet", "progress"), bool),
+    **dict.fromkeys(("rows", "tiers", "workers", "budget", "split", "beam", "thin"), Integral),
+    **dict.fromkeys(("seconds", "total_seconds"), Real),
+    **dict.fromkeys(("heights", "separator", "order", "code", "message", "bay"), ()),
+    **dict.fromkeys(("sizes", "stop", "cert", "after"), os.PathLike),
+}
+REPEATED = ("message", "bay")
 
 
 @dataclass(frozen=True)
@@ -29,23 +40,50 @@ class Failed(Exception):
         self.status, self.fault = status, fault
 
 
+def word(name: str, value: Any) -> str:
+    """The value of an option, as the command line has it."""
+    if isinstance(value, bool) or not isinstance(value, (str, KINDS[name])):
+        raise TypeError(f"{name} cannot be {value!r}")
+    if isinstance(value, Real) and not value >= 0:
+        raise ValueError(f"{name} cannot be {value}")
+    if isinstance(value, Real) and KINDS[name] is Real:
+        return f"{float(value):.3f}"
+    return os.fsdecode(value) if isinstance(value, os.PathLike) else str(value)
+
+
+def words_of(name: str, value: Any) -> List[str]:
+    """The words of an option; none where it is None."""
+    if name not in KINDS and name != "json":
+        raise TypeError(f"crp solve has no option {name}")
+    if value is None:
+        return []
+    flag = "--" + name.replace("_", "-")
+    if name == "json" or KINDS[name] is bool:
+        if not isinstance(value, bool):
+            raise TypeError(f"{name} is True or False, and not {value!r}")
+        if name == "json" and value:
+            raise ValueError("run reads the report as text: json cannot be True")
+        return [flag] * value
+    if name not in REPEATED or not isinstance(value, (list, tuple)):
+        return [f"{flag}={word(name, value)}"]
+    if not value:
+        raise ValueError(f"{name} is an empty list; None is for all")
+    return [f"{flag}={word(name, it)}" for it in value]
+
+
 def run(
     yard: Union[str, "os.PathLike[str]"],
     movins: Union[str, "os.PathLike[str]"],
     *,
     program: str = "crp",
-    **options: Union[Value, bool, Sequence[Value]],
+    **options: Union[Value, bool, Sequence[str], None],
 ) -> Run:
-    """Runs `crp solve` over a yard list and a load message. `program` is the path of the program. The options are those of `crp solve`, but for `--json`:
-    `budget=1000` is `--budget 1000`, `total_seconds=2.5` is `--total-seconds 2.5`, `first=True` is `--first`, and a list is given word by
-    word: `bay=["A 1", "B 7"]`. Raises Failed where no whole report was written."""
-    words = [program, "solve", os.fspath(yard), os.fspath(movins)]
-    for name, value in options.items():
-        flag = "--" + name.replace("_", "-")
-        if isinstance(value, bool):
-            words += [flag] * value
-        else:
-            words += [f"{flag}={it}" for it in (value if isinstance(value, (list, tuple)) else [value])]
+    """Runs `crp solve` over a yard list and a load message. `program` is the path of the program. The options are those of `crp solve`, but for
+    `--json`: `budget=1000` is `--budget 1000`, `total_seconds=2.5` is `--total-seconds 2.5`, `first=True` is `--first`,
+    `bay=["A 1", "B 7"]` is `--bay 'A 1' --bay 'B 7'`, and one that is None is not given. Raises TypeError or ValueError at another option and at
+    a value that an option cannot have, before anything is run, and Failed where no whole report was written."""
+    words = [program, "solve", *(it for name, value in options.items() for it in words_of(name, value))]
+    words += ["--", os.fspath(yard), os.fspath(movins)]
     made = subprocess.run(words, stdin=subprocess.DEVNULL, capture_output=True, check=False)
     said = made.stderr.decode("utf-8", "surrogateescape")
     lines = [it[len("crp: "):] for it in said.split("\n") if it.startswith("crp: ")]
@@ -56,5 +94,5 @@ def run(
         except ValueError:
             if made.returncode != 4:
                 raise
-    faults = [it for it in lines if not it.startswith("note: ")]
+    faults = [it for it in lines if not it.startswith(("note: ", "bay "))]
     raise Failed(made.returncode, faults[0] if faults else "", said)
