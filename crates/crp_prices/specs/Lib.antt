@@ -1,0 +1,11 @@
+pub use Rattle.crp_plan.specs.Rows
+pub use Rattle.crp_plan.specs.Bay
+pub use Rattle.crp_bounds.specs.Bounds
+pub mod Prices
+pub mod PriceTable
+pub mod Pass
+pub mod AllJobs
+pub mod Worked
+pub mod Columns
+pub mod Tables
+pub mod Ready
