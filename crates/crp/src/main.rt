@@ -5,11 +5,13 @@ mod cleared;
 mod given;
 mod piped;
 mod program;
+mod standing;
 mod terminal;
 
 use crate::cleared::Cleared;
 use crate::given::words_and_head;
 use crate::piped::Piped;
+use crate::standing::standing_in;
 use crate::terminal::ErrorTerminal;
 use crp_commands::{Metered, Streams};
 use crp_files::SystemFiles;
@@ -25,6 +27,7 @@ fn streams_of<R, W, E>(input: R, out: W, errors: E) -> Streams<R, W, E> {
 }
 
 fn main(rt: HostRuntime) -> ExitCode {
+    let _held = standing_in(&rt);
     let (words, (printed, head)) = words_and_head(&rt);
     let is_json = head.is_some();
     let terminal = ErrorTerminal::new(&rt, !is_json);

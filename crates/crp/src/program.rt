@@ -19,7 +19,7 @@ use std::thread::Threads;
 
 // What is said where no words are given, to whoever sits before the terminal that is read then.
 const AWAITED: &[u8] =
-    b"crp: a certificate's head is awaited on the standard input; crp --help says what else there is\n";
+    b"crp: note: a certificate is read from the keyboard; crp help lists the commands\n";
 
 // What is said where the standard output is a pipe that nobody reads any more.
 const READER_ENDED: &[u8] =

@@ -11,6 +11,8 @@ use Rattle.crp_order.specs.declared.bay_problem.BayProblem.{BayProblem}
 use Rattle.crp_order.specs.BayProblems.{bay_problem_of, problems_of, is_called}
 use Rattle.crp_checker.specs.declared.verdict.Verdict.{Verdict}
 use Rattle.crp_checker.specs.Files.{BeginsWithTexts}
+use Rattle.crp_said.specs.declared.said.Said.{Said}
+use Rattle.crp_said.specs.declared.said.Said.TheVariants.{Optimal, First, NoPlan, Between, Outside}
 use Rattle.crp_said.specs.declared.said.SaidBay.{SaidBay}
 use Rattle.crp_said.specs.declared.report.ReportFault.{ReportFault}
 use Rattle.crp_said.specs.declared.report.ReportFault.TheVariants as report
@@ -22,7 +24,7 @@ use Rattle.crp_checker.proofs.Cuts.{texts_more}
 use Rattle.crp_audit.specs.declared.fault.AuditFault.{AuditFault}
 use Rattle.crp_audit.specs.declared.fault.AuditFault.TheVariants as fault
 use Rattle.crp_audit.specs.Headline.{Handed, Reported, numbers_in, said_of, verdict_in, IsTrueOf, IsHeadline, shown_in}
-use Rattle.crp_audit.specs.Faults.{of_spelling, reported_as, next_called, next_said, CountsRight, IsBayFault, IsNextFault, ComeFirst, IsFaultBehind, AreRightFirst, IsFirstFault, verdicts_of, ShowsFirst, IsAuditRefusal}
+use Rattle.crp_audit.specs.Faults.{of_spelling, reported_as, next_called, next_said, CountsRight, IsBayFault, IsFaultOf, IsNextFault, ComeFirst, IsFaultBehind, AreRightFirst, IsFirstFault, verdicts_of, ShowsFirst, IsAuditRefusal}
 
 -- so much of what is handed in is right: bays with these verdicts, whose text is this front of the report; and what is left
 pub record AreRight (h : Handed) (shown : List (YardBay × Verdict)) (front : List ℕ) (stated : List BayProblem) (more : List BaySaid) (left : List ℕ) : Type 0 where
@@ -128,17 +130,25 @@ pub spelling : (h : Handed) (error : ReportFault) → (error ≡ report.Memory) 
 spelling h error why = ⊎_elim (λ e. subst (λ (x : ReportFault). IsFirstFault h [] (of_spelling x)) (sym e) (inl refl))
     (λ k. let (line, e, is) = k in subst (λ (x : ReportFault). IsFirstFault h [] (of_spelling x)) (sym e) (refl, is)) why
 
+-- what is no fault of a bay of which something is claimed, nor that nothing is claimed of it
+never : (h : Handed) (b : Reported) (said : Said) (left front : List ℕ) (f : AuditFault) → ¬ IsBayFault h b left front f → f ≢ fault.Outside b.bay.0 → ¬ IsFaultOf said h b left front f
+never h b (Optimal count) left front f not other is = not is
+never h b (First count) left front f not other is = not is
+never h b NoPlan left front f not other is = not is
+never h b (Between lower upper why) left front f not other is = not is
+never h b (Outside count) left front f not other is = other is
+
 no_spelling : (h : Handed) (r : ReportSaid) (later : List StackedBay) (more : List BaySaid) (left front : List ℕ) (line : ℕ) → ¬ IsNextFault h r later more left front (fault.Spelling line)
 no_spelling h r [] [] left front line is = is
 no_spelling h r [] (s ∷ more) left front line is = is
 no_spelling h r (bay ∷ later) [] left front line is = is
-no_spelling h r (bay ∷ later) (s ∷ more) left front line is = is.1
+no_spelling h r (bay ∷ later) (s ∷ more) left front line is = never h (reported_as bay s []) s.said left front (fault.Spelling line) (λ no. no) (λ e. cc) is.1
 
 no_numbers : (h : Handed) (r : ReportSaid) (later : List StackedBay) (more : List BaySaid) (left front : List ℕ) → ¬ IsNextFault h r later more left front fault.Numbers
 no_numbers h r [] [] left front is = is
 no_numbers h r [] (s ∷ more) left front is = is
 no_numbers h r (bay ∷ later) [] left front is = is
-no_numbers h r (bay ∷ later) (s ∷ more) left front is = is.1
+no_numbers h r (bay ∷ later) (s ∷ more) left front is = never h (reported_as bay s []) s.said left front fault.Numbers (λ no. no) (λ e. cc) is.1
 
 -- the bays so far
 come_first : (h : Handed) (shown : List (YardBay × Verdict)) (front : List ℕ) (stated : List BayProblem) (more : List BaySaid) (left : List ℕ) → (so : AreRight h shown front stated more left)
@@ -187,13 +197,13 @@ out_of_memory h shown front stated more left so = record { before = so.before; s
 
 -- a fault of the next bay
 bay_next : (h : Handed) (r : ReportSaid) (bay : StackedBay) (later : List StackedBay) (s : BaySaid) (more : List BaySaid) (left front : List ℕ) (f : AuditFault) → s.bay ≡ bay.0
-    → IsBayFault h (reported_as bay s []) left front f → IsNextFault h r (bay ∷ later) (s ∷ more) left front f
-bay_next h r bay later s more left front (fault.Bay line wanted) e is = absurd is
+    → IsFaultOf s.said h (reported_as bay s []) left front f → IsNextFault h r (bay ∷ later) (s ∷ more) left front f
+bay_next h r bay later s more left front (fault.Bay line wanted) e is = absurd (never h (reported_as bay s []) s.said left front (fault.Bay line wanted) (λ no. no) (λ e. cc) is)
 bay_next h r bay later s more left front f e is = (e, is)
 
 pub refused_bay : (h : Handed) (shown : List (YardBay × Verdict)) (front : List ℕ) (stated behind : List BayProblem) (next : BayProblem) (more after : List BaySaid) (s : BaySaid) (left : List ℕ)
     (f : AuditFault) → AreRight h shown front stated more left → stated ≡ next ∷ behind → more ≡ s ∷ after → s.bay ≡ next.bay
-    → ((bay : StackedBay) → next ≡ bay_problem_of h.yard.sizes h.sequence bay → s.bay ≡ bay.0 → (f ≡ fault.Memory) ⊎ IsBayFault h (reported_as bay s []) left front f) → IsAuditRefusal h shown f
+    → ((bay : StackedBay) → next ≡ bay_problem_of h.yard.sizes h.sequence bay → s.bay ≡ bay.0 → (f ≡ fault.Memory) ⊎ IsFaultOf s.said h (reported_as bay s []) left front f) → IsAuditRefusal h shown f
 refused_bay h shown front stated behind next more after s left f so is-next is-said name wrong =
     let of = next_of (bay_problem_of h.yard.sizes h.sequence) next behind so.later (sym is-next ∙ so.stated_are) in
     let same : s.bay ≡ of.bay.0 = name ∙ ap (λ (p : BayProblem). p.bay) of.next_is in

@@ -11,7 +11,7 @@ use Rattle.crp_checker.specs.declared.verdict.Verdict.TheVariants as verdict
 use Rattle.crp_checker.specs.Verdicts.{Says}
 use Rattle.crp_checker.proofs.Meaning.{says_from, says_first, plan_of_first}
 use Rattle.crp_said.specs.declared.said.Said.{Said}
-use Rattle.crp_said.specs.declared.said.Said.TheVariants.{Optimal, First, NoPlan, Between}
+use Rattle.crp_said.specs.declared.said.Said.TheVariants.{Optimal, First, NoPlan, Between, Outside}
 use Rattle.crp_audit.specs.Headline.{Handed, Reported, problem_in, IsSo, shown_by, lower_shown, BearsOut, IsShownOf, IsTrueOf}
 use Rattle.crp_audit.specs.LooksTrue.{StatesPlan, LooksSo, LooksTrue}
 use Rattle.crp_plan.specs.BayNames.{YardBay}
@@ -81,6 +81,7 @@ so h b (Between lower upper cause.Memory) v e shown looks =
     (low (problem_in h b) lower upper (says_as h b v (shown_by lower (cap (problem_in h b)) upper) e shown), looks)
 so h b (Between lower upper cause.Time) v e shown looks = let bounds = says_as h b v (verdict.Bounds lower upper) e shown in (bounds.0, looks)
 so h b (Between lower upper cause.Edited) v e shown looks = (low_shown (problem_in h b) v lower (says b.bay.0 (problem_in h b) b.certificate v shown) e, looks)
+so h b (Outside count) v e shown looks = looks
 
 looks : (h : Handed) (b : Reported) (said : Said) (v : Verdict) → BearsOut (cap (problem_in h b)) said v → IsShownOf b.bay.0 (problem_in h b) b.certificate v → IsSo h b said → LooksSo h b said
 looks h b (Optimal count) v e shown is = is.0
@@ -90,6 +91,7 @@ looks h b (First count) v e shown (printed, fewest) =
     (plan, subst (StatesPlan b.certificate) (one_is (problem_in h b) path (path_of plan.moves) best printed.first) stated)
 looks h b NoPlan v e shown is = is.1
 looks h b (Between lower upper why) v e shown is = is.1
+looks h b (Outside count) v e shown is = is
 
 pub true_if_looks : (h : Handed) (b : Reported) → LooksTrue h b → IsTrueOf h b
 true_if_looks h b is = record { so = so h b b.said is.certified is.borne_out is.shown is.so; certified = is.certified; borne_out = is.borne_out; shown = is.shown }

@@ -24,7 +24,7 @@ use Rattle.crp_checker.specs.Files.{BeginsWithTexts}
 use Rattle.crp_checker.proofs.OneCut.{first_text, some_text}
 use Rattle.crp_checker.proofs.SameText.{not_both}
 use Rattle.crp_said.specs.declared.said.Said.{Said}
-use Rattle.crp_said.specs.declared.said.Said.TheVariants.{Optimal, First, NoPlan, Between}
+use Rattle.crp_said.specs.declared.said.Said.TheVariants.{Optimal, First, NoPlan, Between, Outside}
 use Rattle.crp_said.specs.MoveLines.{AreMoveLines}
 use Rattle.crp_said.specs.Said.{BaySaid, count_said}
 use Rattle.crp_said.specs.Spelled.{most, AreSmall, ReportSaid, SpellsReport, front_text}
@@ -36,7 +36,7 @@ use Rattle.crp_audit.specs.declared.fault.AuditStop.TheVariants as stop
 use Rattle.crp_audit.specs.Headline.{Handed, handed, Reported, numbers_in, said_of, problem_in, PrintsPlan, IsTrueOf, IsHeadline}
 use Rattle.crp_audit.specs.LooksTrue.{LooksSo}
 use Rattle.crp_audit.specs.Printed.{AreOtherLines}
-use Rattle.crp_audit.specs.Faults.{CountsRight, IsWrongMove, IsItsPlan, SaysTheSame, IsNextText, IsBayFault, reported_as, IsNextFault, IsFaultBehind, IsFirstFault, IsAuditRefusal}
+use Rattle.crp_audit.specs.Faults.{CountsRight, IsWrongMove, IsItsPlan, SaysTheSame, IsNextText, IsBayFault, IsFaultOf, reported_as, IsNextFault, IsFaultBehind, IsFirstFault, IsAuditRefusal}
 use Rattle.crp_audit.specs.Stops.{IsAuditStop}
 use Rattle.crp_audit.specs.Readable.{report_in}
 use Rattle.crp_audit.proofs.Apart.{plan_followed, one_plan_printed}
@@ -86,6 +86,7 @@ no_move h b (First count) front is so some wrong = plan_followed h b count front
 no_move h b NoPlan front is so some wrong = let t : false ≡ true = some in absurd (cc)
 no_move h b (Between lower None why) front is so some wrong = let t : false ≡ true = some in absurd (cc)
 no_move h b (Between lower (Some upper) why) front is so some wrong = plan_followed h b upper front is so wrong
+no_move h b (Outside count) front is so some wrong = so
 
 pub not_other : (h : Handed) (b : Reported) (count : ℕ) → IsProblem (problem_in h b) → PrintsPlan h b count → AreOtherLines (ranked h.sequence b.bay.1) (problem_in h b) b.lines (Some count) → ⊥
 not_other h b count is prints (moves, place, leads, other) =
@@ -100,6 +101,7 @@ no_plan_fault h b (First count) is so other = not_other h b count is so.0 other
 no_plan_fault h b NoPlan is so other = other so
 no_plan_fault h b (Between lower None why) is so other = other so
 no_plan_fault h b (Between lower (Some upper) why) is so other = not_other h b upper is so other
+no_plan_fault h b (Outside count) is so other = so
 
 -- its certificate states the plan that is printed
 its_plan : (h : Handed) (b : Reported) (said : Said) (script : Script) (moves : List Move) → IsProblem (problem_in h b) → IsAcceptedText (Some (problem_in h b)) b.certificate script → LooksSo h b said
@@ -112,6 +114,7 @@ its_plan h b (First count) script moves is accepted (prints, (stated, of, plan))
 its_plan h b (Optimal count) script moves is accepted so printed = tt
 its_plan h b NoPlan script moves is accepted so printed = tt
 its_plan h b (Between lower upper why) script moves is accepted so printed = tt
+its_plan h b (Outside count) script moves is accepted so printed = absurd so
 
 same_text : (left text certificate : List ℕ) (texts : List (List ℕ)) → IsNextText left text → BeginsWithTexts left (certificate ∷ texts) [] → text ≡ certificate
 same_text left text certificate texts (after, next) begins = (first_text text certificate next.0 begins.0 next.2 begins.2 (sym next.1 ∙ begins.1)).0
@@ -151,6 +154,14 @@ no_bay_fault h b texts left front (fault.Other name) is begins (same, prints, (t
     not (says_the_same h b script is (subst (λ l. IsAcceptedText (Some (problem_in h b)) l script) (same_text left text b.certificate texts next begins) accepted))
 no_bay_fault h b texts left front f is begins wrong = wrong
 
+-- something is claimed of it
+claimed : (h : Handed) (b c : Reported) (said : Said) (left front : List ℕ) (f : AuditFault) → LooksSo h b said → IsFaultOf said h c left front f → IsBayFault h c left front f
+claimed h b c (Optimal count) left front f so wrong = wrong
+claimed h b c (First count) left front f so wrong = wrong
+claimed h b c NoPlan left front f so wrong = wrong
+claimed h b c (Between lower upper why) left front f so wrong = wrong
+claimed h b c (Outside count) left front f so wrong = absurd so
+
 -- ---- the whole
 
 at_end : (h : Handed) (r : ReportSaid) (left front : List ℕ) (f : AuditFault) → left ≡ [] → CountsRight r → IsNextFault h r [] [] left front f → ⊥
@@ -163,7 +174,9 @@ at_bay : (h : Handed) (r : ReportSaid) (b : Reported) (bays : List Reported) (le
     → BeginsWithTexts left (b.certificate ∷ map (λ (x : Reported). x.certificate) bays) []
     → IsNextFault h r (b.bay ∷ map (λ (x : Reported). x.bay) bays) (said_of b ∷ map said_of bays) left front f → ⊥
 at_bay h r b bays left front (fault.Bay line wanted) is texts wrong = wrong.2 refl
-at_bay h r b bays left front f is texts wrong = no_bay_fault h b (map (λ (x : Reported). x.certificate) bays) left front f is texts wrong.1
+at_bay h r b bays left front f is texts wrong =
+    let looks = looks_if_true h b is in
+    no_bay_fault h b (map (λ (x : Reported). x.certificate) bays) left front f is texts (claimed h b (again b) b.said left front f looks.so wrong.1)
 
 no_next : (h : Handed) (r : ReportSaid) (bays : List Reported) (left front : List ℕ) (f : AuditFault) → CountsRight r → BeginsWithTexts left (map (λ (b : Reported). b.certificate) bays) []
     → AllByRecursion (IsTrueOf h) bays → IsNextFault h r (map (λ (b : Reported). b.bay) bays) (map said_of bays) left front f → ⊥

@@ -22,7 +22,7 @@ use Rattle.crp_checker.specs.Verdicts.{IsVerdictUnder, IsVerdict}
 use Rattle.crp_said.specs.declared.said.SaidCause.{SaidCause}
 use Rattle.crp_said.specs.declared.said.SaidCause.TheVariants as cause
 use Rattle.crp_said.specs.declared.said.Said.{Said}
-use Rattle.crp_said.specs.declared.said.Said.TheVariants.{Optimal, First, NoPlan, Between}
+use Rattle.crp_said.specs.declared.said.Said.TheVariants.{Optimal, First, NoPlan, Between, Outside}
 use Rattle.crp_said.specs.Said.{BaySaid, bay_text, bays_line, counts_line, is_settled}
 use Rattle.crp_said.specs.Spelled.{most, AreSmall, IsSmall, AreMoves, IsSayable, ReportSaid, SpellsReport}
 use Rattle.crp_said.proofs.MoveBodies.{are_moves, no_moves}
@@ -119,6 +119,7 @@ small_said h b NoPlan v is e shown so = tt
 small_said h b (Between lower None why) v is e shown so = let low = low_said h b lower None why v e shown in (omega (arith, low), tt)
 small_said h b (Between lower (Some count) why) v is e shown so =
     let low = low_said h b lower (Some count) why v e shown in (omega (arith, low), printed_low h b count is so.1)
+small_said h b (Outside count) v is e shown so = absurd so
 
 moves_said : (h : Handed) (b : Reported) (said : Said) → AllByRecursion IsPlain (ranked h.sequence b.bay.1) → IsSo h b said → AreMoves b.lines
 moves_said h b (Optimal count) plain so = printed_moves h b count plain so.0
@@ -126,6 +127,7 @@ moves_said h b (First count) plain so = let first = so.0 in printed_moves h b co
 moves_said h b NoPlan plain so = nothing_moves b.lines so.1
 moves_said h b (Between lower None why) plain so = nothing_moves b.lines so.1
 moves_said h b (Between lower (Some count) why) plain so = printed_moves h b count plain so.1
+moves_said h b (Outside count) plain so = absurd so
 
 sayable : (h : Handed) (bays : List Reported) → AllByRecursion IsNamedProblem (map (bay_problem_of h.yard.sizes h.sequence) (map (λ (b : Reported). b.bay) bays))
     → AllByRecursion (IsTrueOf h) bays → AllByRecursion IsSayable (map said_of bays)

@@ -19,7 +19,7 @@ use Rattle.crp_audit.specs.declared.fault.AuditFault.TheVariants as fault
 use Rattle.crp_audit.specs.declared.fault.AuditStop.{AuditStop}
 use Rattle.crp_audit.specs.declared.fault.AuditStop.TheVariants as stop
 use Rattle.crp_audit.specs.Headline.{Handed, handed, IsTrueOf, verdict_in}
-use Rattle.crp_audit.specs.Faults.{IsBayFault, IsAuditRefusal, ShowsFirst, reported_as}
+use Rattle.crp_audit.specs.Faults.{IsFaultOf, IsAuditRefusal, ShowsFirst, reported_as}
 use Rattle.crp_audit.specs.Stops.{IsAuditStop, StopsAt, failures_of_stop, of_read}
 use Rattle.crp_audit.proofs.Audited.{AreRight, one_right, refused_bay, shows_first, out_of_memory}
 
@@ -111,7 +111,7 @@ pub stopped_at : {i j : ℕ} {x y : Option ℕ} (yard : Inventory) (orders : Loa
     → AreRightSoFar (handed yard orders sequence report) given limit shown front stated more known u → Transfers (failures_of_stop why) i j before after x y
     → stated ≡ next ∷ behind → more ≡ s ∷ rest → s.bay ≡ next.bay
     → StopsAt known u
-    (λ left f. (h : Handed) (bay : StackedBay) → next ≡ bay_problem_of h.yard.sizes h.sequence bay → s.bay ≡ bay.0 → (f ≡ fault.Memory) ⊎ IsBayFault h (reported_as bay s []) left front f) why
+    (λ left f. (h : Handed) (bay : StackedBay) → next ≡ bay_problem_of h.yard.sizes h.sequence bay → s.bay ≡ bay.0 → (f ≡ fault.Memory) ⊎ IsFaultOf s.said h (reported_as bay s []) left front f) why
     → IsStoppedAt (handed yard orders sequence report) given limit before after shown why
 stopped_at yard orders sequence report given limit before after shown front stated behind next more rest s known u (stop.Fault f) so count is-next is-said name (left, is, wrong) =
     let old = so.right left is in

@@ -1,5 +1,5 @@
 -- Why a report and its certificates are refused: the first fault, and the bays before it, of which all that is promised is so.
-use Rattle.std.specs.Prelude.{◌≡◌, ◌≢◌, ◌⊎◌, ℕ, List, [], ◌∷◌, ◌++◌, length, map, filter, count_by, All, Option, Some, None, MatchOption, IsSome}
+use Rattle.std.specs.Prelude.{◌≡◌, ◌≢◌, ◌⊎◌, ℕ, List, [], ◌∷◌, ◌++◌, length, map, filter, count_by, All, Option, Some, None, MatchOption, IsSome, ⊤}
 use Rattle.crp_plan.specs.declared.moves.Move.{Move}
 use Rattle.crp_plan.specs.Bay.{start, path_of}
 use Rattle.crp_plan.specs.BayNames.{YardBay}
@@ -14,7 +14,7 @@ use Rattle.crp_checker.specs.Files.{BeginsWithTexts}
 use Rattle.crp_checker.specs.Refusals.{IsRefusal}
 use Rattle.crp_said.specs.MoveLines.{AreMoveLines}
 use Rattle.crp_said.specs.declared.said.Said.{Said}
-use Rattle.crp_said.specs.declared.said.Said.TheVariants.{First}
+use Rattle.crp_said.specs.declared.said.Said.TheVariants.{First, Outside}
 use Rattle.crp_said.specs.declared.report.ReportFault.{ReportFault}
 use Rattle.crp_said.specs.declared.report.ReportFault.TheVariants as report
 use Rattle.crp_said.specs.Said.{BaySaid, bay_line, is_settled, count_said}
@@ -65,6 +65,16 @@ IsBayFault h b left front (fault.Other bay) =
     × ((text : List ℕ) × (script : Script) × IsNextText left text × IsAcceptedText (Some (problem_in h b)) text script × ¬ SaysTheSame h b script)
 IsBayFault h b left front f = ⊥
 
+-- nothing is claimed of the bay: its moves are said to be outside the rule
+abbrev pub IsOutside : Said → Type 0
+IsOutside (Outside count) = ⊤
+IsOutside said = ⊥
+
+-- the first fault of a bay whose name is right and of which this is said: that nothing is claimed of it, before all others
+abbrev pub IsFaultOf : Said → Handed → Reported → List ℕ → List ℕ → AuditFault → Type 0
+IsFaultOf (Outside count) h b left front f = f ≡ fault.Outside b.bay.0
+IsFaultOf said h b left front f = IsBayFault h b left front f
+
 -- ---- all bays
 
 -- the fault of a text that is no report
@@ -98,7 +108,7 @@ IsNextFault h r [] [] left front fault.LeftOver = left ≢ []
 IsNextFault h r [] [] left front fault.Closing = (left ≡ []) × ¬ CountsRight r
 IsNextFault h r [] more left front f = ⊥
 IsNextFault h r (bay ∷ later) [] left front f = ⊥
-IsNextFault h r (bay ∷ later) (s ∷ more) left front f = (s.bay ≡ bay.0) × IsBayFault h (reported_as bay s []) left front f
+IsNextFault h r (bay ∷ later) (s ∷ more) left front f = (s.bay ≡ bay.0) × IsFaultOf s.said h (reported_as bay s []) left front f
 
 -- these bays come first, of the yard, in the report and by their certificates, and all that is promised of them is so
 pub record ComeFirst (h : Handed) (r : ReportSaid) (before : List Reported) : Type 0 where

@@ -19,7 +19,7 @@ use Rattle.crp_checker.specs.Files.{BeginsWithTexts}
 use Rattle.crp_said.specs.declared.numbers.Numbers.{Numbers}
 use Rattle.crp_said.specs.declared.said.SaidCause.TheVariants as cause
 use Rattle.crp_said.specs.declared.said.Said.{Said}
-use Rattle.crp_said.specs.declared.said.Said.TheVariants.{Optimal, First, NoPlan, Between}
+use Rattle.crp_said.specs.declared.said.Said.TheVariants.{Optimal, First, NoPlan, Between, Outside}
 use Rattle.crp_said.specs.MoveLines.{AreMoveLines}
 use Rattle.crp_said.specs.TakeLines.{taken_in}
 use Rattle.crp_said.specs.Said.{BaySaid, report_text}
@@ -79,12 +79,13 @@ NoneThere h b = (moves : List Move) → IsPlan (problem_in h b) moves → ⊥
 
 -- what is said is so. `optimal`: the printed plan has so many relocations, and no plan has fewer. `optimal .. first`: the same, and the printed plan
 -- is the first best one. `no plan`: there is none. `between`, for whatever cause: no plan has fewer than the lower number, and the printed plan, if
--- there is one, has as many as the upper one
+-- there is one, has as many as the upper one. `outside the rule`: nothing is promised of such a bay, so no headline has one
 abbrev pub IsSo : Handed → Reported → Said → Type 0
 IsSo h b (Optimal count) = PrintsPlan h b count × NoneHasFewer h b count
 IsSo h b (First count) = PrintsFirst h b count × NoneHasFewer h b count
 IsSo h b NoPlan = NoneThere h b × (b.lines ≡ [])
 IsSo h b (Between lower upper why) = NoneHasFewer h b lower × MatchOption upper (b.lines ≡ []) (PrintsPlan h b)
+IsSo h b (Outside count) = ⊥
 
 -- what a lower bound, the cap and the relocations of a plan, if there is one, show
 abbrev pub shown_by : ℕ → ℕ → Option ℕ → Verdict
@@ -93,7 +94,8 @@ shown_by lower most (Some count) =
     if count == lower then verdict.Optimal lower else (if lower == most then verdict.NoPlan else verdict.Bounds lower (Some count))
 
 -- the verdict on a problem with this cap that says the same as the report. On a bay that was left open these are its bounds; where memory ran out,
--- what its bounds show, since they may meet; where its moves were edited, its bounds, also where they meet, since the certificate may have another plan
+-- what its bounds show, since they may meet; where its moves were edited, its bounds, also where they meet, since the certificate may have another plan;
+-- and where they are outside the rule, bounds that say nothing
 abbrev pub verdict_said : ℕ → Said → Verdict
 verdict_said most (Optimal count) = verdict.Optimal count
 verdict_said most (First count) = verdict.First count
@@ -102,6 +104,7 @@ verdict_said most (Between lower upper cause.Budget) = verdict.Bounds lower uppe
 verdict_said most (Between lower upper cause.Memory) = shown_by lower most upper
 verdict_said most (Between lower upper cause.Time) = verdict.Bounds lower upper
 verdict_said most (Between lower upper cause.Edited) = verdict.Bounds lower upper
+verdict_said most (Outside count) = verdict.Bounds 0 (Some count)
 
 -- the lower bound that a verdict has: that there is no plan is none
 abbrev pub lower_shown : Verdict → Option ℕ
@@ -111,7 +114,7 @@ lower_shown (verdict.Bounds lower upper) = Some lower
 lower_shown verdict.NoPlan = None
 
 -- a certificate with this verdict bears out what is said on a problem with this cap: its verdict says the same; but where the moves were edited, it may
--- be the certificate of another plan, and its verdict has the lower bound that is said
+-- be the certificate of another plan, and its verdict has the lower bound that is said. Of moves outside the rule none bears out anything
 abbrev pub BearsOut : ℕ → Said → Verdict → Type 0
 BearsOut most (Optimal count) v = v ≡ verdict_said most (Optimal count)
 BearsOut most (First count) v = v ≡ verdict_said most (First count)
@@ -120,6 +123,7 @@ BearsOut most (Between lower upper cause.Budget) v = v ≡ verdict_said most (Be
 BearsOut most (Between lower upper cause.Memory) v = v ≡ verdict_said most (Between lower upper cause.Memory)
 BearsOut most (Between lower upper cause.Time) v = v ≡ verdict_said most (Between lower upper cause.Time)
 BearsOut most (Between lower upper cause.Edited) v = lower_shown v ≡ Some lower
+BearsOut most (Outside count) v = ⊥
 
 -- the text is an accepted certificate of the bay of this name and of this problem, and this is what it shows
 abbrev pub IsShownOf : YardBay → Problem → List ℕ → Verdict → Type 0

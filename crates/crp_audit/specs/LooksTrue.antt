@@ -5,7 +5,7 @@ use Rattle.crp_cert.specs.declared.script.Script.{Script}
 use Rattle.crp_cert.specs.Script.{IsScriptOf}
 use Rattle.crp_checker.specs.declared.verdict.Verdict.{Verdict}
 use Rattle.crp_said.specs.declared.said.Said.{Said}
-use Rattle.crp_said.specs.declared.said.Said.TheVariants.{Optimal, First, NoPlan, Between}
+use Rattle.crp_said.specs.declared.said.Said.TheVariants.{Optimal, First, NoPlan, Between, Outside}
 use Rattle.crp_audit.specs.Headline.{Handed, Reported, problem_in, PrintsPlan, IsBorneOut, IsShownOf}
 
 -- the certificate's plan goes to these rows
@@ -19,6 +19,7 @@ LooksSo h b (Optimal count) = PrintsPlan h b count
 LooksSo h b (First count) = (prints : PrintsPlan h b count) × StatesPlan b.certificate (path_of prints.moves)
 LooksSo h b NoPlan = b.lines ≡ []
 LooksSo h b (Between lower upper why) = MatchOption upper (b.lines ≡ []) (PrintsPlan h b)
+LooksSo h b (Outside count) = ⊥
 
 -- so it looks, and the certificate is accepted, with a verdict that bears out what is said
 pub record LooksTrue (h : Handed) (b : Reported) : Type 0 where

@@ -12,7 +12,7 @@ ghost use Rattle.crp_said.specs.Said.{bay_text};
 ghost use Rattle.crp_said.specs.Spelled.{most, AreSmall, line_behind};
 ghost use Rattle.crp_said.specs.Views.{bay_as, report_as};
 ghost use Rattle.crp_audit.specs.Headline.{Handed, handed, IsTrueOf, IsHeadline, numbers_in, shown_in, verdict_in};
-ghost use Rattle.crp_audit.specs.Faults.{IsBayFault, CountsRight, reported_as};
+ghost use Rattle.crp_audit.specs.Faults.{CountsRight, IsFaultOf, IsOutside, reported_as};
 ghost use Rattle.crp_audit.specs.Stops.{IsAuditStop, StopsAt, failures_of_stop};
 
 use crate::certified::read_certificate;
@@ -22,9 +22,18 @@ use crp_checker::{Unread, Verdict, Verdicts};
 use crp_movins::Orders;
 use crp_order::{BayProblem, Sequence, absent, problems};
 use crp_plan::{BayName, Source};
-use crp_said::{Numbers, Report, SaidBay, line_behind, numbers_text, push_bay_line, read_report};
+use crp_said::{
+    Numbers, Report, Said, SaidBay, line_behind, numbers_text, push_bay_line, read_report,
+};
 use crp_yard::Yard;
 use std::alloc::{AllocError, Global};
+
+/// Whether nothing is claimed of a bay of which this is said.
+fn is_outside(said: Said) -> bool
+    ensures { IsTrue result ↔ IsOutside said }
+{
+    matches!(said, Said::Outside(_))
+}
 
 /// Audits a bay that stands behind this front of the report, and whose certificate is the next: its verdict. Adds its text to the
 /// front.
@@ -46,10 +55,15 @@ fn audit_bay<R: Source>(
         × (found.0 ≡ verdict_in h (reported_as bay (bay_as said.now) text)))) }
     ensures wrong { IfErr result (StopsAt (R.remaining source.old) unread
         (λ left fault. (h : Handed) (bay : StackedBay) → stated.now ≡ bay_problem_of h.yard.sizes h.sequence bay
-        → said.now.bay ≡ bay.0 → (fault ≡ AuditFault.Memory) ⊎ IsBayFault h (reported_as bay (bay_as said.now) []) left front.old.items fault)) }
+        → said.now.bay ≡ bay.0 → (fault ≡ AuditFault.Memory) ⊎ IsFaultOf said.now.said h (reported_as bay (bay_as said.now) []) left front.old.items fault)) }
     ensures done { OnOk result (Transfers 0 interruptions.old interruptions.new (R.failures source.old) (R.failures source.new) (R.interrupted source.old) (R.interrupted source.new)) }
     ensures stopped { IfErr result (λ stop. Transfers (failures_of_stop stop) interruptions.old interruptions.new (R.failures source.old) (R.failures source.new) (R.interrupted source.old) (R.interrupted source.new)) }
 {
+    if is_outside(said.said) {
+        return Err(AuditStop::Fault(AuditFault::Outside {
+            bay: said.bay.copy(),
+        }));
+    }
     push_bay_line(front, &said.bay, said.said)?;
     let rows = read_lines(alloc, stated, said, front)?;
     front.extend_from_slice(&said.lines)?;

@@ -61,6 +61,10 @@ fn verdict_said(most: u32, said: Said) -> Verdict
             upper,
             cause: SaidCause::Edited,
         } => Verdict::Bounds { lower, upper },
+        Said::Outside(count) => Verdict::Bounds {
+            lower: 0,
+            upper: Some(count),
+        },
     }
 }
 
@@ -85,6 +89,7 @@ fn bears_out(most: u32, said: Said, verdict: Verdict) -> bool
             cause: SaidCause::Edited,
             ..
         } => lower_shown(verdict) == Some(lower),
+        Said::Outside(_) => false,
         _ => verdict == verdict_said(most, said),
     }
 }

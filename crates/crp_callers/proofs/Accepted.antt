@@ -13,7 +13,7 @@ use Rattle.crp_checker.specs.AcceptedTexts.{IsAcceptedScript}
 use Rattle.crp_checker.specs.Verdicts.{IsVerdict, Says}
 use Rattle.crp_said.specs.declared.said.SaidCause.TheVariants as cause
 use Rattle.crp_said.specs.declared.said.Said.{Said}
-use Rattle.crp_said.specs.declared.said.Said.TheVariants.{Optimal, First, NoPlan, Between}
+use Rattle.crp_said.specs.declared.said.Said.TheVariants.{Optimal, First, NoPlan, Between, Outside}
 use Rattle.crp_said.specs.Said.{BaySaid}
 use Rattle.crp_order.specs.BayProblems.{problem_of}
 use Rattle.crp_audit.specs.declared.fault.AuditFault.{AuditFault}
@@ -61,6 +61,7 @@ says_the_same h b (Between lower upper cause.Budget) v e shown so = subst (Says 
 says_the_same h b (Between lower upper cause.Time) v e shown so = subst (Says (problem_in h b)) e shown
 says_the_same h b (Between lower upper cause.Memory) v e shown so = subst (Says (problem_in h b)) e shown
 says_the_same h b (Between lower upper cause.Edited) v e shown so = (so.0, reached h b upper so.1)
+says_the_same h b (Outside count) v e shown so = absurd so
 
 each_said : VerdictsSay → (h : Handed) (bays : List Reported) → AllByRecursion (IsTrueOf h) bays
     → AllZip (IsSaidOf h) (map (λ (b : Reported). b.bay) bays) (map (λ (b : Reported). (b.bay.0, verdict_in h b)) bays)

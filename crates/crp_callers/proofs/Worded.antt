@@ -51,6 +51,7 @@ never_zero fault.TooLarge e = absurd (omega arith)
 never_zero (fault.TooLargeOf which) e = absurd (omega arith)
 never_zero (fault.Followed f) e = absurd (omega arith)
 never_zero (fault.Loaded f) e = absurd (omega arith)
+never_zero (fault.Unstated f) e = absurd (omega arith)
 never_zero (fault.Second f) e = absurd (omega arith)
 never_zero (fault.Sizes f) e = absurd (omega arith)
 never_zero fault.ReadSizes e = absurd (omega arith)
@@ -196,6 +197,7 @@ shared_fails names chosen seen status (fault.Checked number refused) shared is e
 shared_fails names chosen seen status (fault.Audited f) shared is e = absurd is
 shared_fails names chosen seen status (fault.Followed f) shared is e = absurd is
 shared_fails names chosen seen status (fault.Loaded f) shared is e = absurd is
+shared_fails names chosen seen status (fault.Unstated f) shared is e = absurd is
 shared_fails names chosen seen status (fault.Second f) shared is e = absurd is
 shared_fails names chosen seen status (fault.Sizes f) shared is e = absurd is
 shared_fails names chosen seen status fault.ReadSizes shared is e = absurd is

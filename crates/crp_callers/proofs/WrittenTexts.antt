@@ -10,7 +10,9 @@ use Rattle.crp_yard.specs.Reading.{IsTextOf, IsYardListOf}
 use Rattle.crp_movins.specs.LoadOrders.{LoadOrders}
 use Rattle.crp_checker.specs.declared.verdict.Verdict.{Verdict}
 use Rattle.crp_said.specs.Spelled.{most, AreSmall}
-use Rattle.crp_follow.specs.Behind.{IsListBehind}
+use Rattle.crp_follow.specs.Behind.{IsListBehind, Made}
+use Rattle.crp_follow.specs.Unstated.{bays_of_part}
+use Rattle.crp_separated.specs.Inputs.{with_separator}
 use Rattle.crp_follow.specs.Followed.{IsFollowed}
 use Rattle.crp_report.specs.Chosen.{InputChosen}
 use Rattle.crp_report.specs.Runs.{SourceSeen, SinkSeen, AreOrders, Gets}
@@ -24,7 +26,7 @@ use Rattle.crp_order.specs.Absences.{absent_text}
 use Rattle.crp_commands.specs.Absent.{AbsentChosen, AbsentSeen, Lists}
 use Rattle.crp_commands.specs.Audit.{AuditChosen, AuditSeen, Audits, AuditFailsWith, IsHandedIn, IsInputOf, audit_text}
 use Rattle.crp_commands.specs.Partial.{IsReportIn, part_of}
-use Rattle.crp_commands.specs.Follow.{FollowChosen, FollowSeen, Follows, IsFollowInput, Ship, WritesTexts, WritesWhole, made_for}
+use Rattle.crp_commands.specs.Follow.{FollowChosen, FollowSeen, Follows, IsFollowInput, IsPartedList, Ship, WritesTexts, WritesWhole, made_for, table_for}
 use Rattle.crp_callers.specs.CommandReports.{AreInput, HoldsOfTexts, IsFollowedWhole, IsWhole}
 
 pub on_ok : {T E : Type 0} (r : Result T E) (P : T → Type 0) (Q : E → Type 0) (R : Type 0) → MatchResult r P Q → ((x : T) → P x → R) → OnOk r R
@@ -138,36 +140,41 @@ pub record AreFollowed (s : FollowSeen) (list message report page left table : L
   pub list_got : IsFilled lists left
   pub table_got : IsFilled s.texts.table table
 
+-- a list with commas is the list
+parted : (separator : ℕ) → separator ≡ 44 → (yard : Inventory) (made : List Made) (text : List ℕ) → IsPartedList separator yard made text → IsPartedList 44 yard made text
+parted separator commas yard made text is = subst (λ (n : ℕ). IsPartedList n yard made text) commas is
+
 -- what the texts of a report are that were written
 whole_texts : (chosen : FollowChosen) (s : FollowSeen) (list message report page left table : List ℕ) (yard : Inventory) (ship : Ship) (said : List ℕ)
     → AreFollowed s list message report page left table → said ≡ report → AreInput chosen.input list message yard ship.0 ship.1
-    → WritesTexts (Some ship) chosen.loaded false 44 yard said s.texts → IsWhole yard ship.0 ship.1 chosen.loaded report page left table
-whole_texts chosen s list message report page left table yard ship said over same input (x, are, writes) =
+    → WritesTexts chosen (Some ship) yard said s.texts → chosen.summary ≡ false → chosen.separator ≡ 44 → IsWhole chosen.part yard ship.0 ship.1 chosen.loaded report page left table
+whole_texts chosen s list message report page left table yard ship said over same input (x, are, writes) moves commas =
     let paged = subst (λ (o : Option SinkSeen). WritesWhole x.page o) over.page_wanted writes.0 in
     let listed = subst (λ (o : Option SinkSeen). WritesWhole x.list o) over.list_wanted writes.1 in
-    let (own, behind, same_list) = are.list (subst (λ (o : Option SinkSeen). IsTrue (is_some o)) (sym over.list_wanted) refl) in record {
+    let (own, behind, same_list) = parted chosen.separator commas yard _ x.list (are.list (subst (λ (o : Option SinkSeen). IsTrue (is_some o)) (sym over.list_wanted) refl)) in record {
       numbers = are.numbers;
       bays = are.bays;
       follows = subst (λ (t : List ℕ). IsFollowed yard t are.numbers are.bays) same are.is_loaded.0;
       page_is = got over.pages page _ over.page_got paged ∙ are.page;
-      left_is = subst (IsListBehind yard (made_for (Some ship) chosen.loaded are.bays)) (sym (got over.lists left _ over.list_got listed ∙ same_list)) behind;
-      table_is = got s.texts.table table _ over.table_got writes.2 ∙ are.table;
+      stated = are.stated;
+      left_is = subst (IsListBehind yard (made_for (Some ship) chosen.loaded (bays_of_part chosen.part are.bays))) (sym (got over.lists left _ over.list_got listed ∙ same_list)) behind;
+      table_is = got s.texts.table table _ over.table_got writes.2 ∙ are.table ∙ ap (λ (b : Bool). with_separator chosen.separator (table_for b (Some ship) (bays_of_part chosen.part are.bays))) moves
+          ∙ ap (λ (n : ℕ). with_separator n (table_for false (Some ship) (bays_of_part chosen.part are.bays))) commas;
     }
 
 whole_for : (chosen : FollowChosen) (s : FollowSeen) (list message report page left table : List ℕ) (yard : Inventory) (ship : Option Ship) (said : List ℕ)
     → (over : AreFollowed s list message report page left table) → said ≡ report → IsFollowInput chosen.input s.yard (Some over.messages) yard ship
-    → WritesTexts ship chosen.loaded false 44 yard said s.texts → IsFollowedWhole chosen.input chosen.loaded list message report page left table
-whole_for chosen s list message report page left table yard None said over same input writes = absurd input
-whole_for chosen s list message report page left table yard (Some ship) said over same input writes =
+    → WritesTexts chosen ship yard said s.texts → chosen.summary ≡ false → chosen.separator ≡ 44 → IsFollowedWhole chosen.input chosen.part chosen.loaded list message report page left table
+whole_for chosen s list message report page left table yard None said over same input writes moves commas = absurd input
+whole_for chosen s list message report page left table yard (Some ship) said over same input writes moves commas =
     let says = input_is chosen.input s.yard over.messages list message yard ship.0 ship.1 over.list_given over.message_given input in
-    (yard, ship.0, ship.1, says, whole_texts chosen s list message report page left table yard ship said over same says writes)
+    (yard, ship.0, ship.1, says, whole_texts chosen s list message report page left table yard ship said over same says writes moves commas)
 
 pub followed_whole : (chosen : FollowChosen) (s : FollowSeen) → chosen.partial ≡ false → chosen.summary ≡ false → chosen.separator ≡ 44 → (list message report page left table : List ℕ) → AreFollowed s list message report page left table
-    → Follows chosen s → IsFollowedWhole chosen.input chosen.loaded list message report page left table
+    → Follows chosen s → IsFollowedWhole chosen.input chosen.part chosen.loaded list message report page left table
 followed_whole chosen s plain moves commas list message report page left table over (yard, ship, said, given, writes) =
     let (text, bays, is, in_it) = given.report_given in
     let same : said ≡ text = (subst (λ p. IsReportIn p text said bays) plain in_it).0 in
     whole_for chosen s list message report page left table yard ship said over (same ∙ given_is s.report.given report text over.report_given is)
     (subst (λ (o : Option SourceSeen). IsFollowInput chosen.input s.yard o yard ship) over.asked given.input)
-    (subst (λ (n : ℕ). WritesTexts ship chosen.loaded false n yard said s.texts) commas
-    (subst (λ (b : Bool). WritesTexts ship chosen.loaded b chosen.separator yard said s.texts) moves writes))
+    writes moves commas

@@ -11,6 +11,8 @@ use Rattle.crp_movins.specs.LoadOrders.{LoadOrders}
 use Rattle.crp_order.specs.OfBays.{IsSequenceOf}
 use Rattle.crp_said.specs.declared.numbers.Numbers.{Numbers}
 use Rattle.crp_follow.specs.Behind.{IsListBehind}
+use Rattle.crp_follow.specs.Parts.{NamedPart}
+use Rattle.crp_follow.specs.Unstated.{bays_of_part, first_unstated}
 use Rattle.crp_follow.specs.Followed.{BayFollowed, IsFollowed}
 use Rattle.crp_loading.specs.Loading.{load_text}
 use Rattle.crp_page.specs.Page.{page_text}
@@ -63,17 +65,18 @@ abbrev pub HoldsOfTexts : InputChosen → List ℕ → List ℕ → List ℕ →
 HoldsOfTexts chosen list message report certificates P = (yard : Inventory) × (orders : LoadOrders) × (sequence : List (List ℕ))
     × AreInput chosen list message yard orders sequence × P (handed yard orders sequence report certificates)
 
--- the whole report is followed, and these are its page, the list of the yard behind its moves up to so many containers of the ship, or behind all, and its
--- table in the order in which the ship is loaded
-pub record IsWhole (yard : Inventory) (orders : LoadOrders) (sequence : List (List ℕ)) (loaded : Option ℕ) (report page left table : List ℕ) : Type 0 where
+-- the whole report is followed and has what is named, and these are the page of that part, the list of the yard behind its moves up to so many containers of
+-- the ship, or behind all, and its table in the order in which the ship is loaded
+pub record IsWhole (part : NamedPart) (yard : Inventory) (orders : LoadOrders) (sequence : List (List ℕ)) (loaded : Option ℕ) (report page left table : List ℕ) : Type 0 where
   pub numbers : Numbers
   pub bays : List BayFollowed
   pub follows : IsFollowed yard report numbers bays
-  pub page_is : page ≡ page_text yard (Counted (numbers_of yard orders sequence)) (order_for (Some (orders, sequence))) bays
-  pub left_is : IsListBehind yard (made_for (Some (orders, sequence)) loaded bays) left
-  pub table_is : table ≡ load_text sequence orders.list bays
+  pub stated : first_unstated part bays ≡ None
+  pub page_is : page ≡ page_text yard (Counted (numbers_of yard orders sequence)) (order_for (Some (orders, sequence))) (bays_of_part part bays)
+  pub left_is : IsListBehind yard (made_for (Some (orders, sequence)) loaded (bays_of_part part bays)) left
+  pub table_is : table ≡ load_text sequence orders.list (bays_of_part part bays)
 
 -- the same over what a yard list and a message say
-abbrev pub IsFollowedWhole : InputChosen → Option ℕ → List ℕ → List ℕ → List ℕ → List ℕ → List ℕ → List ℕ → Type 0
-IsFollowedWhole chosen loaded list message report page left table = (yard : Inventory) × (orders : LoadOrders) × (sequence : List (List ℕ))
-    × AreInput chosen list message yard orders sequence × IsWhole yard orders sequence loaded report page left table
+abbrev pub IsFollowedWhole : InputChosen → NamedPart → Option ℕ → List ℕ → List ℕ → List ℕ → List ℕ → List ℕ → List ℕ → Type 0
+IsFollowedWhole chosen part loaded list message report page left table = (yard : Inventory) × (orders : LoadOrders) × (sequence : List (List ℕ))
+    × AreInput chosen list message yard orders sequence × IsWhole part yard orders sequence loaded report page left table

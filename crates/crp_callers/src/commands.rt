@@ -28,6 +28,7 @@ use crp_commands::{
     AuditSettings, FollowSettings, Listed, NoTerminal, TextFiles, absent, audit, bound, check,
     follow, perform, replay, rewrite,
 };
+use crp_follow::Part;
 use crp_jobs::{FileCommand, ToolFault};
 use crp_plan::{Nowhere, Received};
 use crp_report::{InputSettings, Status};
@@ -86,7 +87,7 @@ pub fn rewritten(alloc: Global, bytes: &[u8], out: &mut Received) -> Result<Stat
     ensures { (fault : FollowFault) → result ≡ Err (ToolFault.Followed fault) → IsRefusedReport (Some bytes.now) fault × (out.new.bytes.items ≡ []) }
 {
     let mut source = bytes;
-    rewrite(alloc, &mut source, out)
+    rewrite(alloc, &mut source, out, &mut Nowhere)
 }
 
 /// A check of a file that is refused writes the lines of the certificates before the refused one, by however many workers; and of a file
@@ -175,24 +176,24 @@ pub fn audited(
     }
 }
 
-/// Where a report is followed with a message, a page and a list, all of the report is followed, the whole page is written, the list is that
-/// of the yard as its moves leave it, up to so many containers of the ship or all of them, and the table is in the order in which the ship
-/// is loaded.
+/// Where a report is followed with a message, a page and a list, all of the report is followed, the whole page of the part that is named is
+/// written, the list is that of the yard as the moves of that part leave it, up to so many containers of the ship or all of them, and the
+/// table is in the order in which the ship is loaded.
 pub fn followed(
     alloc: Global,
     list: &[u8],
     message: &[u8],
     report: &[u8],
-    asked: (&InputSettings, Option<u64>),
+    asked: (&InputSettings, &Part<'_>, Option<u64>),
     texts: &mut TextFiles<Received, Received>,
     table: &mut Received,
 ) -> Result<Status, ToolFault>
     requires no_page { texts.old.page.bytes.items ≡ [] }
     requires no_list { texts.old.list.bytes.items ≡ [] }
     requires no_table { table.old.bytes.items ≡ [] }
-    ensures { OnOk result (IsFollowedWhole asked.entry.0.now asked.entry.1 list.now message.now report.now texts.new.page.bytes.items texts.new.list.bytes.items table.new.bytes.items) }
+    ensures { OnOk result (IsFollowedWhole asked.entry.0.now asked.entry.1.now asked.entry.2 list.now message.now report.now texts.new.page.bytes.items texts.new.list.bytes.items table.new.bytes.items) }
 {
-    let (settings, loaded) = asked;
+    let (settings, part, loaded) = asked;
     let mut listed = Listed {
         yard: list,
         movins: message,
@@ -200,6 +201,7 @@ pub fn followed(
     let mut report_from = report;
     let asked = FollowSettings {
         input: settings,
+        part,
         ship: true,
         page: true,
         list: true,

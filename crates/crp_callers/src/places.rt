@@ -32,5 +32,5 @@ pub fn line_behind_both_signs() -> usize
 pub fn record_behind_quotes() -> Option<usize>
     ensures { result ≡ Some 8 }
 {
-    record_at(b"a,\"b\nc\"\nd", 2)
+    record_at(b"a,\"b\nc\"\nd", b',', 2)
 }

@@ -33,6 +33,7 @@ unread chosen s which (fault.Checked number why) nothing input is = absurd is
 unread chosen s which (fault.Audited f) nothing input is = absurd is
 unread chosen s which (fault.Followed f) nothing input is = absurd is
 unread chosen s which (fault.Loaded f) nothing input is = absurd is
+unread chosen s which (fault.Unstated f) nothing input is = absurd is
 unread chosen s which (fault.Second f) nothing input is = absurd is
 unread chosen s which (fault.Sizes f) nothing input is = absurd is
 unread chosen s which fault.ReadSizes nothing input is = absurd is

@@ -103,6 +103,7 @@ line_stops held holds new before after file piece verdicts stated files number (
 line_stops held holds new before after file piece verdicts stated files number (fault.TooLargeOf which) has ended why = absurd why
 line_stops held holds new before after file piece verdicts stated files number (fault.Followed f) has ended why = absurd why
 line_stops held holds new before after file piece verdicts stated files number (fault.Loaded f) has ended why = absurd why
+line_stops held holds new before after file piece verdicts stated files number (fault.Unstated f) has ended why = absurd why
 line_stops held holds new before after file piece verdicts stated files number (fault.Second f) has ended why = absurd why
 line_stops held holds new before after file piece verdicts stated files number (fault.Sizes f) has ended why = absurd why
 line_stops held holds new before after file piece verdicts stated files number fault.ReadSizes has ended why = absurd why
@@ -161,6 +162,7 @@ earlier_bytes held holds first before after bytes (fault.ReadOf which) le grows 
 earlier_bytes held holds first before after bytes (fault.TooLargeOf which) le grows tells = absurd tells
 earlier_bytes held holds first before after bytes (fault.Followed f) le grows tells = absurd tells
 earlier_bytes held holds first before after bytes (fault.Loaded f) le grows tells = absurd tells
+earlier_bytes held holds first before after bytes (fault.Unstated f) le grows tells = absurd tells
 earlier_bytes held holds first before after bytes (fault.Second f) le grows tells = absurd tells
 earlier_bytes held holds first before after bytes (fault.Sizes f) le grows tells = absurd tells
 earlier_bytes held holds first before after bytes fault.ReadSizes le grows tells = absurd tells
@@ -237,6 +239,7 @@ bytes_stop limit s bytes (fault.ReadOf which) is within tells = absurd tells
 bytes_stop limit s bytes (fault.TooLargeOf which) is within tells = absurd tells
 bytes_stop limit s bytes (fault.Followed f) is within tells = absurd tells
 bytes_stop limit s bytes (fault.Loaded f) is within tells = absurd tells
+bytes_stop limit s bytes (fault.Unstated f) is within tells = absurd tells
 bytes_stop limit s bytes (fault.Second f) is within tells = absurd tells
 bytes_stop limit s bytes (fault.Sizes f) is within tells = absurd tells
 bytes_stop limit s bytes fault.ReadSizes is within tells = absurd tells
@@ -272,6 +275,7 @@ earlier_check limit given held holds source before after sink first last (fault.
 earlier_check limit given held holds source before after sink first last (fault.TooLargeOf which) a b c d tells = absurd tells
 earlier_check limit given held holds source before after sink first last (fault.Followed f) a b c d tells = absurd tells
 earlier_check limit given held holds source before after sink first last (fault.Loaded f) a b c d tells = absurd tells
+earlier_check limit given held holds source before after sink first last (fault.Unstated f) a b c d tells = absurd tells
 earlier_check limit given held holds source before after sink first last (fault.Second f) a b c d tells = absurd tells
 earlier_check limit given held holds source before after sink first last (fault.Sizes f) a b c d tells = absurd tells
 earlier_check limit given held holds source before after sink first last fault.ReadSizes a b c d tells = absurd tells
@@ -299,6 +303,7 @@ last_stops limit s holds file verdicts stated files number (fault.ReadOf which) 
 last_stops limit s holds file verdicts stated files number (fault.TooLargeOf which) text is has shows why = absurd why
 last_stops limit s holds file verdicts stated files number (fault.Followed f) text is has shows why = absurd why
 last_stops limit s holds file verdicts stated files number (fault.Loaded f) text is has shows why = absurd why
+last_stops limit s holds file verdicts stated files number (fault.Unstated f) text is has shows why = absurd why
 last_stops limit s holds file verdicts stated files number (fault.Second f) text is has shows why = absurd why
 last_stops limit s holds file verdicts stated files number (fault.Sizes f) text is has shows why = absurd why
 last_stops limit s holds file verdicts stated files number fault.ReadSizes text is has shows why = absurd why

@@ -63,6 +63,7 @@ unread_report seen (fault.Run why) keeps none = absurd none
 unread_report seen (fault.Audited why) keeps none = absurd none
 unread_report seen (fault.TooLargeOf which) keeps none = absurd none
 unread_report seen (fault.Loaded why) keeps none = absurd none
+unread_report seen (fault.Unstated why) keeps none = absurd none
 unread_report seen (fault.Second why) keeps none = absurd none
 unread_report seen (fault.Sizes why) keeps none = absurd none
 unread_report seen fault.ReadSizes keeps none = absurd none

@@ -32,7 +32,7 @@ unnoted_in command.Replay held failures = (Keeps-refl held, refl)
 unnoted_in (command.Bound chains json) held failures = (Keeps-refl held, refl)
 unnoted_in (command.Check any_size workers json) held failures = inl (Keeps-refl held, refl)
 unnoted_in (command.Prove search) held failures = (Keeps-refl held, refl)
-unnoted_in command.Rewrite held failures = (Keeps-refl held, refl)
+unnoted_in command.Rewrite held failures = shows_nothing held
 
 -- ---- files that hold no certificate
 
@@ -84,7 +84,7 @@ noted_in_alone (command.Bound chains json) a b c m n o first next = alone_then a
 noted_in_alone (command.Check any_size workers json) a b c m n o (inl first) next = inl (alone_then a b c m n o first next)
 noted_in_alone (command.Check any_size workers json) a b c m n o (inr first) next = inr (lines_then a b c m n o empty_note first next)
 noted_in_alone (command.Prove search) a b c m n o first next = alone_then a b c m n o first next
-noted_in_alone command.Rewrite a b c m n o first next = alone_then a b c m n o first next
+noted_in_alone command.Rewrite a b c m n o (text, first) (next, more) = (text, shows_kept a b c text first next)
 
 noted_by_alone : (quiet : Bool) (a b c : Option (List ℕ)) (m n o : ℕ) → IsNotedBy quiet (seen_from a b m n) → IsLeftAlone (seen_from b c n o) → IsNotedBy quiet (seen_from a c m o)
 noted_by_alone true a b c m n o first next = alone_then a b c m n o first next

@@ -142,6 +142,7 @@ solve_so_far names chosen seen (fault.Checked number refused) is = absurd is
 solve_so_far names chosen seen (fault.Audited f) is = absurd is
 solve_so_far names chosen seen (fault.Followed f) is = absurd is
 solve_so_far names chosen seen (fault.Loaded f) is = absurd is
+solve_so_far names chosen seen (fault.Unstated f) is = absurd is
 solve_so_far names chosen seen (fault.Second f) is = absurd is
 solve_so_far names chosen seen (fault.Sizes f) is = absurd is
 solve_so_far names chosen seen fault.ReadSizes is = absurd is

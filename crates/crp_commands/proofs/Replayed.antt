@@ -47,6 +47,7 @@ no_head_reported limit IsReport IsRefused seen (fault.ReadOf which) keeps refuse
 no_head_reported limit IsReport IsRefused seen (fault.TooLargeOf which) keeps refuses none = absurd none
 no_head_reported limit IsReport IsRefused seen (fault.Followed f) keeps refuses none = absurd none
 no_head_reported limit IsReport IsRefused seen (fault.Loaded f) keeps refuses none = absurd none
+no_head_reported limit IsReport IsRefused seen (fault.Unstated f) keeps refuses none = absurd none
 no_head_reported limit IsReport IsRefused seen (fault.Second f) keeps refuses none = absurd none
 no_head_reported limit IsReport IsRefused seen (fault.Sizes f) keeps refuses none = absurd none
 no_head_reported limit IsReport IsRefused seen fault.ReadSizes keeps refuses none = absurd none
@@ -71,6 +72,7 @@ no_report_reported limit seen bytes head (fault.ReadOf which) keeps given is non
 no_report_reported limit seen bytes head (fault.TooLargeOf which) keeps given is none = absurd none
 no_report_reported limit seen bytes head (fault.Followed f) keeps given is none = absurd none
 no_report_reported limit seen bytes head (fault.Loaded f) keeps given is none = absurd none
+no_report_reported limit seen bytes head (fault.Unstated f) keeps given is none = absurd none
 no_report_reported limit seen bytes head (fault.Second f) keeps given is none = absurd none
 no_report_reported limit seen bytes head (fault.Sizes f) keeps given is none = absurd none
 no_report_reported limit seen bytes head fault.ReadSizes keeps given is none = absurd none

@@ -112,6 +112,7 @@ front_fails held holds before after front rest (fault.ReadOf which) tells = absu
 front_fails held holds before after front rest (fault.TooLargeOf which) tells = absurd tells
 front_fails held holds before after front rest (fault.Followed f) tells = absurd tells
 front_fails held holds before after front rest (fault.Loaded f) tells = absurd tells
+front_fails held holds before after front rest (fault.Unstated f) tells = absurd tells
 front_fails held holds before after front rest (fault.Second f) tells = absurd tells
 front_fails held holds before after front rest (fault.Sizes f) tells = absurd tells
 front_fails held holds before after front rest fault.ReadSizes tells = absurd tells

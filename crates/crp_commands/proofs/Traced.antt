@@ -1,6 +1,7 @@
 -- How a report that is followed ends, from how the parts do.
-use Rattle.std.proofs.Common.{◌≡◌, ◌⊎◌, ◌-◌, ◌≤◌, ℕ, List, [], Bool, true, false, Option, Some, None, inl, inr, refl, subst, sym, arith}
+use Rattle.std.proofs.Common.{◌≡◌, ◌∙◌, ◌⊎◌, ◌-◌, ◌≤◌, ℕ, List, [], Bool, true, false, Option, Some, None, inl, inr, refl, ap, subst, sym, arith}
 use Rattle.std.specs.Prelude.{IfSome, IsTrue, is_some, not}
+use Rattle.std.specs.Bool.{OnFalse}
 use Rattle.crp_yard.specs.Inventory.{Inventory}
 use Rattle.crp_yard.specs.Reading.{IsTextOf}
 use Rattle.crp_said.specs.declared.numbers.Numbers.{Numbers}
@@ -8,6 +9,8 @@ use Rattle.crp_follow.specs.declared.fault.FollowFault.{FollowFault}
 use Rattle.crp_follow.specs.declared.fault.FollowFault.TheVariants as followed
 use Rattle.crp_follow.specs.Faults.{IsFirstFault}
 use Rattle.crp_follow.specs.Followed.{BayFollowed, IsFollowed}
+use Rattle.crp_follow.specs.Parts.{NamedPart}
+use Rattle.crp_follow.specs.Unstated.{bays_of_part, first_unstated}
 use Rattle.crp_loading.specs.declared.fault.LoadingFault.{LoadingFault}
 use Rattle.crp_loading.specs.declared.fault.LoadingFault.TheVariants as loading
 use Rattle.crp_loading.specs.Faults.{IsFirst}
@@ -20,7 +23,7 @@ use Rattle.crp_jobs.specs.declared.outcome.ToolFault.{ToolFault}
 use Rattle.crp_jobs.specs.declared.outcome.ToolFault.TheVariants as fault
 use Rattle.crp_jobs.specs.Outcomes.{fault_of_follow, fault_of_loading}
 use Rattle.crp_separated.specs.Inputs.{with_separator}
-use Rattle.crp_commands.specs.Follow.{AreTextsOf, HasNoTexts, IsFollowInput, IsPartedList, Ship, StopsPage, StopsWriting, Texts, WritesPart, WritesWhole, if_asked, loading_faults, made_for, numbers_for, order_for, sink_failures, table_for}
+use Rattle.crp_commands.specs.Follow.{AreTextsOf, FollowChosen, HasNoTexts, IsFollowInput, IsLoaded, IsPartedList, Ship, StopsPage, StopsWriting, Texts, WritesPart, WritesWhole, if_asked, loading_faults, made_for, numbers_for, order_for, sink_failures, table_for}
 use Rattle.crp_commands.specs.Noted.{IsNotedBy}
 use Rattle.crp_commands.specs.Partial.{IsReportIn}
 use Rattle.crp_jobs.specs.Opened.{IsSourceLeftAlone}
@@ -52,30 +55,35 @@ pub asked_some : (asked : Bool) (sink : SinkSeen) → is_some (if_asked asked si
 asked_some true sink = refl
 asked_some false sink = refl
 
+-- what holds anyway holds where nothing is asked
+pub unasked : (asked : Bool) (P : Type 0) → P → OnFalse asked P
+unasked true P p = tt
+unasked false P p = p
+
 -- ---- why a report has no texts
 
-pub not_followed : (ship : Option Ship) (yard : Inventory) (report : List ℕ) (f : FollowFault) → (f ≡ followed.Memory) ⊎ IsFirstFault yard report f
-    → HasNoTexts ship yard report (fault_of_follow f)
-not_followed ship yard report f (inl memory) = subst (λ (x : FollowFault). HasNoTexts ship yard report (fault_of_follow x)) (sym memory) tt
-not_followed ship yard report followed.Memory (inr first) = tt
-not_followed ship yard report followed.TooLong (inr first) = ((λ e. cc), first)
-not_followed ship yard report (followed.Orders line) (inr first) = ((λ e. cc), first)
-not_followed ship yard report (followed.NoLine line) (inr first) = ((λ e. cc), first)
-not_followed ship yard report (followed.Count line) (inr first) = ((λ e. cc), first)
-not_followed ship yard report (followed.NoBay line) (inr first) = ((λ e. cc), first)
-not_followed ship yard report (followed.Again line) (inr first) = ((λ e. cc), first)
-not_followed ship yard report (followed.Relocations line) (inr first) = ((λ e. cc), first)
-not_followed ship yard report (followed.Lift line) (inr first) = ((λ e. cc), first)
-not_followed ship yard report (followed.Container line) (inr first) = ((λ e. cc), first)
-not_followed ship yard report (followed.SetDown line) (inr first) = ((λ e. cc), first)
+pub not_followed : (part : NamedPart) (ship : Option Ship) (yard : Inventory) (report : List ℕ) (f : FollowFault) → (f ≡ followed.Memory) ⊎ IsFirstFault yard report f
+    → HasNoTexts part ship yard report (fault_of_follow f)
+not_followed part ship yard report f (inl memory) = subst (λ (x : FollowFault). HasNoTexts part ship yard report (fault_of_follow x)) (sym memory) tt
+not_followed part ship yard report followed.Memory (inr first) = tt
+not_followed part ship yard report followed.TooLong (inr first) = ((λ e. cc), first)
+not_followed part ship yard report (followed.Orders line) (inr first) = ((λ e. cc), first)
+not_followed part ship yard report (followed.NoLine line) (inr first) = ((λ e. cc), first)
+not_followed part ship yard report (followed.Count line) (inr first) = ((λ e. cc), first)
+not_followed part ship yard report (followed.NoBay line) (inr first) = ((λ e. cc), first)
+not_followed part ship yard report (followed.Again line) (inr first) = ((λ e. cc), first)
+not_followed part ship yard report (followed.Relocations line) (inr first) = ((λ e. cc), first)
+not_followed part ship yard report (followed.Lift line) (inr first) = ((λ e. cc), first)
+not_followed part ship yard report (followed.Container line) (inr first) = ((λ e. cc), first)
+not_followed part ship yard report (followed.SetDown line) (inr first) = ((λ e. cc), first)
 
-pub not_loaded : (ship : Option Ship) (yard : Inventory) (report : List ℕ) (numbers : Numbers) (bays : List BayFollowed) (f : LoadingFault)
-    → IsFollowed yard report numbers bays → (f ≡ loading.Memory) ⊎ IsFirst (loading_faults ship bays) f → HasNoTexts ship yard report (fault_of_loading f)
-not_loaded ship yard report numbers bays f followed (inl memory) =
-    subst (λ (x : LoadingFault). HasNoTexts ship yard report (fault_of_loading x)) (sym memory) tt
-not_loaded ship yard report numbers bays loading.Memory followed (inr first) = tt
-not_loaded ship yard report numbers bays (loading.OutOfOrder line) followed (inr first) = ((λ e. cc), (numbers, bays, followed, first))
-not_loaded ship yard report numbers bays (loading.NotOrdered line) followed (inr first) = ((λ e. cc), (numbers, bays, followed, first))
+pub not_loaded : (part : NamedPart) (ship : Option Ship) (yard : Inventory) (report : List ℕ) (numbers : Numbers) (bays : List BayFollowed) (f : LoadingFault)
+    → IsFollowed yard report numbers bays → (f ≡ loading.Memory) ⊎ IsFirst (loading_faults ship bays) f → HasNoTexts part ship yard report (fault_of_loading f)
+not_loaded part ship yard report numbers bays f followed (inl memory) =
+    subst (λ (x : LoadingFault). HasNoTexts part ship yard report (fault_of_loading x)) (sym memory) tt
+not_loaded part ship yard report numbers bays loading.Memory followed (inr first) = tt
+not_loaded part ship yard report numbers bays (loading.OutOfOrder line) followed (inr first) = ((λ e. cc), (numbers, bays, followed, first))
+not_loaded part ship yard report numbers bays (loading.NotOrdered line) followed (inr first) = ((λ e. cc), (numbers, bays, followed, first))
 
 -- ---- why its texts were not written
 
@@ -109,18 +117,19 @@ noted_so ship asked s is noted = subst (λ (b : Bool). IsNotedBy (not b) s) is n
 
 -- ---- how a call ends
 
--- the sources had an input and a report: what comes of its texts is what comes of the call
-pub texts_of_call : (ship : Option Ship) (loaded : Option ℕ) (summary : Bool) (separator : ℕ) (yard : Inventory) (report : List ℕ) (numbers : Numbers) (bays : List BayFollowed)
-    (x : Texts) (asked : Bool) (sink : SinkSeen) → IsFollowed yard report numbers bays → loading_faults ship bays ≡ [] → x.page ≡ page_text yard (numbers_for ship yard numbers) (order_for ship) bays
-    → (IsTrue asked → IsPartedList separator yard (made_for ship loaded bays) x.list) → x.table ≡ with_separator separator (table_for summary ship bays)
-    → AreTextsOf ship loaded summary separator yard report (is_some (if_asked asked sink)) x
-texts_of_call ship loaded summary separator yard report numbers bays x asked sink followed faultless page list table = record {
+-- the sources had an input and a report: what comes of the texts of its part is what comes of the call
+pub texts_of_call : (chosen : FollowChosen) (ship : Option Ship) (yard : Inventory) (report : List ℕ) (numbers stated : Numbers) (bays part : List BayFollowed) (x : Texts) (asked : Bool) (sink : SinkSeen)
+    → IsLoaded ship yard report numbers bays → first_unstated chosen.part bays ≡ None → stated ≡ numbers → part ≡ bays_of_part chosen.part bays
+    → x.page ≡ page_text yard (numbers_for ship yard stated) (order_for ship) part → (IsTrue asked → IsPartedList chosen.separator yard (made_for ship chosen.loaded part) x.list)
+    → x.table ≡ with_separator chosen.separator (table_for chosen.summary ship part) → AreTextsOf chosen ship yard report (is_some (if_asked asked sink)) x
+texts_of_call chosen ship yard report numbers stated bays part x asked sink loaded named same is page list table = record {
   numbers = numbers;
   bays = bays;
-  is_loaded = (followed, faultless);
-  page = page;
-  list = λ wanted. list (subst (λ (b : Bool). IsTrue b) (asked_some asked sink) wanted);
-  table = table;
+  is_loaded = loaded;
+  stated = named;
+  page = page ∙ ap (λ (n : Numbers). page_text yard (numbers_for ship yard n) (order_for ship) part) same ∙ ap (λ (l : List BayFollowed). page_text yard (numbers_for ship yard numbers) (order_for ship) l) is;
+  list = λ wanted. subst (λ (l : List BayFollowed). IsPartedList chosen.separator yard (made_for ship chosen.loaded l) x.list) is (list (subst (λ (b : Bool). IsTrue b) (asked_some asked sink) wanted));
+  table = table ∙ ap (λ (l : List BayFollowed). with_separator chosen.separator (table_for chosen.summary ship l)) is;
 }
 
 -- the report of a text that the source had

@@ -14,6 +14,8 @@ use Rattle.crp_follow.specs.Faults.{IsFirstFault}
 use Rattle.crp_follow.specs.Table.{table_text}
 use Rattle.crp_follow.specs.Summary.{summary_text}
 use Rattle.crp_follow.specs.Behind.{Made, IsListBehind, all_moves}
+use Rattle.crp_follow.specs.Parts.{NamedPart}
+use Rattle.crp_follow.specs.Unstated.{bays_of_part, first_unstated}
 use Rattle.crp_loading.specs.declared.fault.LoadingFault.{LoadingFault}
 use Rattle.crp_loading.specs.declared.fault.LoadingFault.TheVariants as loading
 use Rattle.crp_loading.specs.Faults.{faults_of, IsFirst}
@@ -37,6 +39,7 @@ use Rattle.crp_jobs.specs.declared.job.FollowFiles.{FollowFiles}
 use Rattle.crp_jobs.specs.declared.outcome.Statement.TheVariants as statement
 use Rattle.crp_jobs.specs.declared.outcome.ToolFault.{ToolFault}
 use Rattle.crp_jobs.specs.declared.outcome.ToolFault.TheVariants as fault
+use Rattle.crp_commands.specs.declared.following.FollowSettings.{FollowSettings}
 use Rattle.crp_commands.specs.Audit.{IsInputOf, IsNoInput}
 use Rattle.crp_commands.specs.Calls.{failures_of_tool_fault}
 use Rattle.crp_commands.specs.Partial.{IsReportIn}
@@ -47,14 +50,19 @@ use Rattle.crp_jobs.specs.Opened.{FilesSeen, FilesFail, AreUnemptied, IsFileOpen
 use Rattle.crp_separated.specs.Inputs.{with_separator}
 use Rattle.crp_commands.specs.Lists.{IsListOpened}
 
--- what is asked for: what the input means, how many containers the ship has got, if the yard after is that of then, whether the report may end early,
--- whether the table is to be that of the bays, and the byte between the fields of what is written
+-- what is asked for: what the input means, the part of the report, how many containers the ship has got, if the yard after is that of then, whether the
+-- report may end early, whether the table is to be that of the bays, and the byte between the fields of what is written
 pub record FollowChosen : Type 0 where
   pub input : InputChosen
+  pub part : NamedPart
   pub loaded : Option ℕ
   pub partial : Bool
   pub summary : Bool
   pub separator : ℕ
+
+-- what the settings ask for
+abbrev pub chosen_in : FollowSettings → FollowChosen
+chosen_in s = record { input = s.input.now; part = s.part.now; loaded = s.loaded; partial = s.partial; summary = s.summary; separator = s.separator }
 
 -- what a call saw of the sinks of its texts: that of the page and that of the list, where these are asked for, and that of the table
 pub record TextsSeen : Type 0 where
@@ -166,22 +174,27 @@ pub record Texts : Type 0 where
   pub list : List ℕ
   pub table : List ℕ
 
--- the report is followed over the yard and loads the ship, and these are its texts, that of the list where it is wanted
-pub record AreTextsOf (ship : Option Ship) (loaded : Option ℕ) (summary : Bool) (separator : ℕ) (yard : Inventory) (report : List ℕ) (wanted : Bool) (x : Texts) : Type 0 where
+-- the report is followed over the yard, loads the ship and has all bays and blocks that are named, and these are the texts of that part, that of the list
+-- where it is wanted
+pub record AreTextsOf (chosen : FollowChosen) (ship : Option Ship) (yard : Inventory) (report : List ℕ) (wanted : Bool) (x : Texts) : Type 0 where
   pub numbers : Numbers
   pub bays : List BayFollowed
   pub is_loaded : IsLoaded ship yard report numbers bays
-  pub page : x.page ≡ page_text yard (numbers_for ship yard numbers) (order_for ship) bays
-  pub list : IsTrue wanted → IsPartedList separator yard (made_for ship loaded bays) x.list
-  pub table : x.table ≡ with_separator separator (table_for summary ship bays)
+  pub stated : first_unstated chosen.part bays ≡ None
+  pub page : x.page ≡ page_text yard (numbers_for ship yard numbers) (order_for ship) (bays_of_part chosen.part bays)
+  pub list : IsTrue wanted → IsPartedList chosen.separator yard (made_for ship chosen.loaded (bays_of_part chosen.part bays)) x.list
+  pub table : x.table ≡ with_separator chosen.separator (table_for chosen.summary ship (bays_of_part chosen.part bays))
 
--- why a report has no texts: its first fault, or where it is followed the first fault of its takes, or lack of memory
-abbrev pub HasNoTexts : Option Ship → Inventory → List ℕ → ToolFault → Type 0
-HasNoTexts ship yard report (fault.Followed f) = (f ≢ followed.Memory) × IsFirstFault yard report f
-HasNoTexts ship yard report (fault.Loaded f) =
+-- why there are no texts of this part of a report: its first fault, or where it is followed the first fault of its takes, or where it loads the ship the
+-- first that is named and not in it; or lack of memory
+abbrev pub HasNoTexts : NamedPart → Option Ship → Inventory → List ℕ → ToolFault → Type 0
+HasNoTexts part ship yard report (fault.Followed f) = (f ≢ followed.Memory) × IsFirstFault yard report f
+HasNoTexts part ship yard report (fault.Loaded f) =
     (f ≢ loading.Memory) × ((numbers : Numbers) × (bays : List BayFollowed) × IsFollowed yard report numbers bays × IsFirst (loading_faults ship bays) f)
-HasNoTexts ship yard report fault.Memory = ⊤
-HasNoTexts ship yard report f = ⊥
+HasNoTexts part ship yard report (fault.Unstated u) =
+    (numbers : Numbers) × (bays : List BayFollowed) × IsLoaded ship yard report numbers bays × (first_unstated part bays ≡ Some u)
+HasNoTexts part ship yard report fault.Memory = ⊤
+HasNoTexts part ship yard report f = ⊥
 
 -- nothing was written
 abbrev pub WritesNothing : TextsSeen → Type 0
@@ -209,13 +222,13 @@ StopsWriting x t fault.Memory = IfSome t.page (λ s. GetsFront s x.page) × IfSo
 StopsWriting x t f = ⊥
 
 -- the texts of the report were written
-abbrev pub WritesTexts : Option Ship → Option ℕ → Bool → ℕ → Inventory → List ℕ → TextsSeen → Type 0
-WritesTexts ship loaded summary separator yard report t = (x : Texts) × AreTextsOf ship loaded summary separator yard report (is_some t.list) x × WritesAll x t
+abbrev pub WritesTexts : FollowChosen → Option Ship → Inventory → List ℕ → TextsSeen → Type 0
+WritesTexts chosen ship yard report t = (x : Texts) × AreTextsOf chosen ship yard report (is_some t.list) x × WritesAll x t
 
 -- why they were not: there are none, and nothing was written; or not all of them were
-abbrev pub StopsFollowing : Option Ship → Option ℕ → Bool → ℕ → Inventory → List ℕ → TextsSeen → ToolFault → Type 0
-StopsFollowing ship loaded summary separator yard report t f = (HasNoTexts ship yard report f × WritesNothing t)
-    ⊎ ((x : Texts) × AreTextsOf ship loaded summary separator yard report (is_some t.list) x × StopsWriting x t f)
+abbrev pub StopsFollowing : FollowChosen → Option Ship → Inventory → List ℕ → TextsSeen → ToolFault → Type 0
+StopsFollowing chosen ship yard report t f = (HasNoTexts chosen.part ship yard report f × WritesNothing t)
+    ⊎ ((x : Texts) × AreTextsOf chosen ship yard report (is_some t.list) x × StopsWriting x t f)
 
 -- the sources had this input and a text that is this report: of one that ends early it is the report with its last line
 pub record AreGiven (chosen : FollowChosen) (s : FollowSeen) (yard : Inventory) (ship : Option Ship) (report : List ℕ) : Type 0 where
@@ -225,7 +238,7 @@ pub record AreGiven (chosen : FollowChosen) (s : FollowSeen) (yard : Inventory) 
 -- the sources had an input and a report that is followed: its texts were written, and nothing else
 abbrev pub Follows : FollowChosen → FollowSeen → Type 0
 Follows chosen s = (yard : Inventory) × (ship : Option Ship) × (report : List ℕ) × AreGiven chosen s yard ship report
-    × WritesTexts ship chosen.loaded chosen.summary chosen.separator yard report s.texts
+    × WritesTexts chosen ship yard report s.texts
 
 -- why there is no input, as a run states it, or where it is accepted no report
 abbrev pub IsNotRead : FollowChosen → FollowSeen → ToolFault → Type 0
@@ -236,7 +249,7 @@ IsNotRead chosen s f = ((g : Fault) × (f ≡ fault.Run g) × IsNoFollowInput ch
 abbrev pub FollowFailsWith : FollowChosen → FollowSeen → ToolFault → Type 0
 FollowFailsWith chosen s f = (IsNotRead chosen s f × WritesNothing s.texts)
     ⊎ ((yard : Inventory) × (ship : Option Ship) × (report : List ℕ) × AreGiven chosen s yard ship report
-    × StopsFollowing ship chosen.loaded chosen.summary chosen.separator yard report s.texts f)
+    × StopsFollowing chosen ship yard report s.texts f)
 
 -- ---- with its failures
 
@@ -358,6 +371,7 @@ FollowStops chosen u s f = FollowFails chosen s f ⊎ (IsUnended u f × ((ended 
 abbrev pub chosen_by : FollowFiles → InputChosen → FollowChosen
 chosen_by names input = record {
   input = input;
+  part = names.part;
   loaded = option_and_then (λ file. file.loaded) names.after;
   partial = names.partial;
   summary = names.summary;

@@ -34,13 +34,14 @@ abbrev pub IsNotedBy : Bool → SinkSeen → Type 0
 IsNotedBy true s = IsLeftAlone s
 IsNotedBy false s = ShowsMore s.held s.holds
 
--- a check leaves the sink alone, or shows that the file holds no certificate; another command over one file leaves it alone
+-- a check leaves the sink alone, or shows that the file holds no certificate; a report that is written anew may show something; another command over one
+-- file leaves it alone
 abbrev pub IsNotedIn : FileCommand → SinkSeen → Type 0
 IsNotedIn (command.Check any_size workers json) s = IsLeftAlone s ⊎ GetsLines s empty_note
 IsNotedIn command.Replay s = IsLeftAlone s
 IsNotedIn (command.Bound chains json) s = IsLeftAlone s
 IsNotedIn (command.Prove search) s = IsLeftAlone s
-IsNotedIn command.Rewrite s = IsLeftAlone s
+IsNotedIn command.Rewrite s = ShowsMore s.held s.holds
 
 -- a list of absent containers leaves it alone, and so do an audit or a comparison of reports that may not end early, and what follows one without a message
 abbrev pub IsNoted : Job → SinkSeen → Type 0

@@ -1,20 +1,7 @@
--- A report that may end early, and what is noted of it.
-use Rattle.std.specs.Prelude.{◌≡◌, ℕ, ◌==◌, Bool, true, false, List, ◌++◌, codes, decimal, Option, Some, None, if◌then◌else◌}
-use Rattle.crp_yard.specs.Inventory.{Inventory}
-use Rattle.crp_said.specs.Completed.{IsCompleted}
-use Rattle.crp_audit.specs.Part.{first_sequence}
-
--- the report that a text is: one that may end early with its last line, of which so many bays stand there where that was lacking; and any other as it is
-abbrev pub IsReportIn : Bool → List ℕ → List ℕ → Option ℕ → Type 0
-IsReportIn true text report bays = IsCompleted text report bays
-IsReportIn false text report bays = (report ≡ text) × (bays ≡ None)
-
--- the sequence that it is audited by: that of the bays that stand there, where it ends early
-abbrev pub part_of : Option ℕ → Inventory → List (List ℕ) → List (List ℕ)
-part_of None yard sequence = sequence
-part_of (Some bays) yard sequence = first_sequence bays yard sequence
-
--- ---- the notes
+-- What is noted of a report that ends early.
+use Rattle.std.specs.Prelude.{ℕ, ◌==◌, List, ◌++◌, codes, decimal, if◌then◌else◌}
+use Rattle.std.specs.Str.{bytes_eq}
+pub use Rattle.crp_jobs.specs.Partial.{IsReportIn, part_of}
 
 -- behind the number of bays that stand there
 abbrev pub standing_words : ℕ → List ℕ
@@ -23,6 +10,14 @@ standing_words bays = if bays == 1 then codes " bay stands there\n" else codes "
 -- that the last line is lacking of a report that is called so, and how many bays stand there
 abbrev pub last_note : List ℕ → ℕ → List ℕ
 last_note words bays = codes "crp: note: " ++ (words ++ (codes " has no last line: " ++ (decimal bays ++ standing_words bays)))
+
+-- that nothing is lacking of it but the line end of its last line
+abbrev pub unended_note : List ℕ → List ℕ
+unended_note words = codes "crp: note: the last line of " ++ (words ++ codes " lacks its line end\n")
+
+-- the first of these notes, or the second where the report with a line end behind it is the one with its last line
+abbrev pub end_note : List ℕ → List ℕ → List ℕ → ℕ → List ℕ
+end_note words ended report bays = if bytes_eq ended report then unended_note words else last_note words bays
 
 -- behind the number of bays that do not
 abbrev pub behind_words : ℕ → List ℕ

@@ -1,11 +1,15 @@
 //! The command `follow`: from the bytes of a yard list and a report, and of a message where one is asked for, to the table of the moves, and
 //! to their page and the list of the yard behind them where these are asked for.
-ghost use Rattle.std.specs.Prelude.{◌≡◌, ◌≤◌, ◌+◌, ◌-◌, ◌&&◌, [], ℕ, List, Option, map, IfOk, IfErr, IsTrue, MatchResult, false, is_some, not};
+ghost use Rattle.std.specs.Prelude.{◌≡◌, ◌≤◌, ◌+◌, ◌-◌, ◌&&◌, [], ℕ, List, None, Option, map, IfOk, IfErr, IsTrue, MatchResult, false, is_some, not};
 ghost use Rattle.std.specs.Bool.{OnFalse};
+ghost use Rattle.std.specs.List.{AllByRecursion};
 ghost use Rattle.crp_plan.specs.Devices.{most_interruptions};
 ghost use Rattle.crp_yard.specs.Reading.{IsTextOf};
 ghost use Rattle.crp_follow.specs.Behind.{IsListBehind, first_moves};
-ghost use Rattle.crp_follow.specs.Followed.{IsFollowed};
+ghost use Rattle.crp_follow.specs.Followed.{AreFollowed, IsFollowed};
+ghost use Rattle.crp_follow.specs.Stated.{BayStated};
+ghost use Rattle.crp_follow.specs.Table.{StandFew};
+ghost use Rattle.crp_follow.specs.Unstated.{bays_of_part, first_unstated};
 ghost use Rattle.crp_follow.specs.Views.{bay_followed};
 ghost use Rattle.crp_page.specs.Page.{page_text};
 ghost use Rattle.crp_report.specs.BayTexts.{AreFailuresCounted};
@@ -14,14 +18,16 @@ ghost use Rattle.crp_jobs.specs.declared.outcome.ToolFault.TheVariants.{Run};
 ghost use Rattle.crp_report.specs.declared.fault.Fault.TheVariants.{Write};
 ghost use Rattle.crp_report.specs.declared.fault.Output.TheVariants.{YardAfter};
 ghost use Rattle.crp_commands.specs.Calls.{failures_of_tool_fault};
-ghost use Rattle.crp_commands.specs.Follow.{FollowEnds, FollowFails, FollowSeen, HasNoTexts, IsFollowInput, IsNoFollowInput, IsNoReport, IsPartedList, StopsPage, StopsWriting, Texts, TextsSeen, WritesAll, WritesPart, WritesWhole, if_asked, loading_faults, made_for, numbers_for, order_for, source_failures, table_for};
+ghost use Rattle.crp_commands.specs.Follow.{FollowEnds, FollowFails, FollowSeen, HasNoTexts, IsFollowInput, IsNoFollowInput, IsNoReport, IsPartedList, StopsPage, StopsWriting, Texts, TextsSeen, WritesAll, WritesPart, WritesWhole, chosen_in, if_asked, loading_faults, made_for, numbers_for, order_for, source_failures, table_for};
 ghost use Rattle.crp_separated.specs.Inputs.{with_separator};
 ghost use Rattle.crp_commands.specs.Noted.{IsNotedBy};
 
 use crate::auditing::{InputRead, input_from};
 use crate::partial::report_in;
-use crate::tables::table_for;
-use crp_follow::{FollowFault, Followed, MAX_BYTES, list_behind, move_counts};
+use crate::tables::{check_takes, table_for};
+use crp_follow::{
+    FollowFault, Followed, MAX_BYTES, Part, choose_part, first_unstated, list_behind, move_counts,
+};
 use crp_jobs::{Statement, ToolFault};
 use crp_loading::{Ship, counts_up_to};
 use crp_movins::Orders;
@@ -40,6 +46,8 @@ use std::alloc::{AllocError, Global};
 pub struct FollowSettings<'a> {
     /// What the yard list and the message mean.
     pub input: &'a InputSettings,
+    /// The part of the report whose texts are written.
+    pub part: &'a Part<'a>,
     /// Whether there is a message, in whose order the table is to be; else it is bay by bay.
     pub ship: bool,
     /// Whether the page of the moves is wanted.
@@ -81,7 +89,7 @@ struct FollowInput {
     ship: Option<(Orders, Sequence)>,
 }
 
-// A report that is followed, with the list of the yard behind its moves, if that is wanted, and their table.
+// The part of a report that is followed, with the list of the yard behind its moves, if that is wanted, and their table.
 #[derive(Drop)]
 struct FollowMade {
     followed: Followed,
@@ -183,7 +191,7 @@ fn list_if(
     followed: &Followed,
     settings: &FollowSettings<'_>,
 ) -> Result<Vec<u8>, AllocError>
-    requires { (report : List ℕ) × IsFollowed input.now.yard report followed.now.numbers (map bay_followed followed.now.bays.items) }
+    requires { (stated : List BayStated) × AreFollowed input.now.yard stated (map bay_followed followed.now.bays.items) }
     ensures { IfOk result (λ text. IsTrue settings.now.list
         → IsListBehind input.now.yard (made_for input.now.ship settings.now.loaded (map bay_followed followed.now.bays.items)) text.items) }
 {
@@ -194,21 +202,44 @@ fn list_if(
     list_behind(alloc, &input.yard, followed, &counts)
 }
 
-// Follows the moves of a report over a yard. Its texts are made before a byte is written, but for the page.
-fn made_of(
+// Follows the moves of a report over a yard. It has all bays and blocks that are named.
+fn followed_in(
     alloc: Global,
     input: &FollowInput,
     report: &[u8],
+    part: &Part<'_>,
+) -> Result<Followed, ToolFault>
+    ensures followed { IfOk result (λ whole. IsFollowed input.now.yard report.now whole.numbers (map bay_followed whole.bays.items)) }
+    ensures faultless { IfOk result (λ whole. loading_faults input.now.ship (map bay_followed whole.bays.items) ≡ []) }
+    ensures stated { IfOk result (λ whole. first_unstated part.now (map bay_followed whole.bays.items) ≡ None) }
+    ensures few { IfOk result (λ whole. AllByRecursion StandFew (map bay_followed whole.bays.items)) }
+    ensures refused { IfErr result (HasNoTexts part.now input.now.ship input.now.yard report.now) }
+{
+    let followed = crp_follow::follow(alloc, &input.yard, report)?;
+    check_takes(alloc, &followed, &input.ship)?;
+    if let Some(unstated) = first_unstated(&followed, part) {
+        return Err(ToolFault::Unstated(unstated));
+    }
+    Ok(followed)
+}
+
+// The part of a report that is followed. Its texts are made before a byte is written, but for the page.
+fn made_of(
+    alloc: Global,
+    input: &FollowInput,
+    whole: Followed,
     settings: &FollowSettings<'_>,
-) -> Result<FollowMade, ToolFault>
-    ensures followed { IfOk result (λ made. IsFollowed input.now.yard report.now made.followed.numbers (map bay_followed made.followed.bays.items)) }
-    ensures faultless { IfOk result (λ made. loading_faults input.now.ship (map bay_followed made.followed.bays.items) ≡ []) }
+) -> Result<FollowMade, AllocError>
+    requires followed { (stated : List BayStated) × AreFollowed input.now.yard stated (map bay_followed whole.bays.items) }
+    requires few { AllByRecursion StandFew (map bay_followed whole.bays.items) }
+    ensures numbers { IfOk result (λ made. made.followed.numbers ≡ whole.numbers) }
+    ensures bays { IfOk result (λ made. map bay_followed made.followed.bays.items ≡ bays_of_part settings.now.part.now (map bay_followed whole.bays.items)) }
+    ensures followed { IfOk result (λ made. (stated : List BayStated) × AreFollowed input.now.yard stated (map bay_followed made.followed.bays.items)) }
     ensures list { IfOk result (λ made. IsTrue settings.now.list
         → IsPartedList settings.now.separator input.now.yard (made_for input.now.ship settings.now.loaded (map bay_followed made.followed.bays.items)) made.list.items) }
     ensures table { IfOk result (λ made. made.table.items ≡ with_separator settings.now.separator (table_for settings.now.summary input.now.ship (map bay_followed made.followed.bays.items))) }
-    ensures refused { IfErr result (HasNoTexts input.now.ship input.now.yard report.now) }
 {
-    let followed = crp_follow::follow(alloc, &input.yard, report)?;
+    let followed = choose_part(whole, settings.part);
     let shown = table_for(alloc, &followed, &input.ship, settings.summary)?;
     let table = with_separator(alloc, shown, settings.separator)?;
     let left = list_if(alloc, input, &followed, settings)?;
@@ -272,7 +303,7 @@ fn write_page_if<P: Sink>(
     interruptions: &mut u32,
 ) -> Result<(), ToolFault>
     requires passed { interruptions.old ≤ most_interruptions }
-    requires followed { (report : List ℕ) × IsFollowed input.now.yard report followed.now.numbers (map bay_followed followed.now.bays.items) }
+    requires followed { (stated : List BayStated) × AreFollowed input.now.yard stated (map bay_followed followed.now.bays.items) }
     ensures ended { let text = page_text input.now.yard (numbers_for input.now.ship input.now.yard followed.now.numbers) (order_for input.now.ship) (map bay_followed followed.now.bays.items)
         in let seen = if_asked asked (sink_seen P.contents P.failures page.old page.new)
         in MatchResult result (λ _. WritesWhole text seen) (StopsPage text seen) }
@@ -342,7 +373,7 @@ fn write_texts<P: Sink, A: Sink, W: Sink>(
     interruptions: &mut u32,
 ) -> Result<(), ToolFault>
     requires passed { interruptions.old ≤ most_interruptions }
-    requires followed { (report : List ℕ) × IsFollowed input.now.yard report made.now.followed.numbers (map bay_followed made.now.followed.bays.items) }
+    requires followed { (stated : List BayStated) × AreFollowed input.now.yard stated (map bay_followed made.now.followed.bays.items) }
     ensures ended { let texts : Texts = record {
       page = page_text input.now.yard (numbers_for input.now.ship input.now.yard made.now.followed.numbers) (order_for input.now.ship) (map bay_followed made.now.followed.bays.items);
       list = made.now.list.items;
@@ -379,10 +410,11 @@ fn write_texts<P: Sink, A: Sink, W: Sink>(
     Ok(())
 }
 
-/// Follows the moves of a report, whoever wrote it, over the yard that a list of bays gives. It writes the page of the moves, where one is
-/// wanted, behind it the list of the yard as they leave it, where that is, and then the table of them, in the order in which the ship gets
-/// the containers where a message is asked for, or, where that is asked for, the table of the bays; where something is refused, nothing. With a message it notes on `errors` what the report
-/// leaves of what is ordered. A report that may end early is followed as far as it goes, which is noted too.
+/// Follows the moves of a report, whoever wrote it, over the yard that a list of bays gives. Of the part that is named it writes the page of
+/// the moves, where one is wanted, behind it the list of the yard as they leave it, where that is, and then the table of them, in the order
+/// in which the ship gets all its containers where a message is asked for, or, where that is asked for, the table of the bays; where
+/// something is refused, nothing. With a message it notes on `errors` what the whole report leaves of what is ordered. A report that may end
+/// early is followed as far as it goes, which is noted too.
 #[tactic(auto, using(crate::proofs::Noted::unnoted))]
 pub fn follow<Y: Source, M: Source, R: Source, P: Sink, A: Sink, W: Sink, E: Sink>(
     alloc: Global,
@@ -402,8 +434,7 @@ pub fn follow<Y: Source, M: Source, R: Source, P: Sink, A: Sink, W: Sink, E: Sin
       movins = if_asked settings.now.ship (source_seen M.remaining M.failures listed.old.movins listed.new.movins);
       report = source_seen R.remaining R.failures report.old report.new;
       texts = texts;
-    } in MatchResult result (FollowEnds (record { input = settings.now.input.now; loaded = settings.now.loaded; partial = settings.now.partial; summary = settings.now.summary; separator = settings.now.separator }) seen)
-        (FollowFails (record { input = settings.now.input.now; loaded = settings.now.loaded; partial = settings.now.partial; summary = settings.now.summary; separator = settings.now.separator }) seen) }
+    } in MatchResult result (FollowEnds (chosen_in settings.now) seen) (FollowFails (chosen_in settings.now) seen) }
     ensures unread { OnFalse settings.now.ship (listed.new.movins ≡ listed.old.movins) }
     ensures alone { OnFalse settings.now.page (files.new.page ≡ files.old.page) }
     ensures list_alone { OnFalse settings.now.list (files.new.list ≡ files.old.list) }
@@ -413,8 +444,9 @@ pub fn follow<Y: Source, M: Source, R: Source, P: Sink, A: Sink, W: Sink, E: Sin
     let input = follow_input(alloc, listed, settings, &mut interruptions)?;
     let text = report_from(alloc, report, &mut interruptions)?;
     let whole = report_in(alloc, text, settings.partial, errors)?;
-    let made = made_of(alloc, &input, &whole.text, settings)?;
-    note_ship(alloc, &input, &made.followed, settings.loaded, errors);
+    let followed = followed_in(alloc, &input, &whole.text, settings.part)?;
+    note_ship(alloc, &input, &followed, settings.loaded, errors);
+    let made = made_of(alloc, &input, followed, settings)?;
     write_texts(
         alloc,
         &input,

@@ -121,10 +121,7 @@ fn do_job<T: Threads + Wait + Sync, F: Files, R: Source, W: Sink, E: Sink, S: Te
             command,
             stop,
         } => {
-            let terminal = Stoppable {
-                terminal,
-                file: *stop,
-            };
+            let terminal = Stoppable::new(terminal, *stop);
             perform_on(threads, alloc, &terminal, files, streams, file, command)
         }
         Job::Absent {

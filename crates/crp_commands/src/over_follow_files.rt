@@ -74,6 +74,7 @@ fn follow_to<F: Files, Y: Source, M: Source, R: Source, W: Sink, E: Sink, P: Nam
     let mut texts = TextFiles { page, list };
     let settings = FollowSettings {
         input: asked.settings,
+        part: &names.part,
         ship: names.movins.is_some(),
         page: names.page.is_some(),
         list: names.after.is_some(),

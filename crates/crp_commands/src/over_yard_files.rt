@@ -143,10 +143,7 @@ pub fn solve<T: Threads + Wait + Sync, F: Files, W: Sink, E: Sink, S: Terminal +
         (SolveFailsOverFiles asked.now.names.now asked.now.settings.now all report) }
     ensures noted { IsNotedBy watcher.now.quiet (record { held = E.contents errors.old; holds = E.contents errors.new; before = E.failures errors.old; after = E.failures errors.new }) }
 {
-    let terminal = Stoppable {
-        terminal: watcher.terminal,
-        file: asked.names.stop,
-    };
+    let terminal = Stoppable::new(watcher.terminal, asked.names.stop);
     if watcher.quiet {
         return solve_to::<T, Stoppable<'_, S>, F, W, Unwatched, Nowhere, Brand, Brand>(
             threads,

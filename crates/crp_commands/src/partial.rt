@@ -3,7 +3,7 @@ ghost use Rattle.std.specs.Prelude.{◌≡◌, IfOk, not};
 ghost use Rattle.crp_report.specs.Runs.{sink_seen};
 ghost use Rattle.crp_report.specs.Watching.{ShowsMore};
 ghost use Rattle.crp_commands.specs.Noted.{IsNotedBy};
-ghost use Rattle.crp_commands.specs.Partial.{IsReportIn, standing_words, last_note, behind_words, behind_note};
+ghost use Rattle.crp_commands.specs.Partial.{IsReportIn, standing_words, last_note, unended_note, end_note, behind_words, behind_note};
 
 use crp_cert::push_decimal;
 use crp_plan::Sink;
@@ -46,6 +46,34 @@ fn last_note(alloc: Global, words: &[u8], bays: usize) -> Result<Vec<u8>, AllocE
     Ok(text)
 }
 
+// The note that it lacks nothing but the line end of its last line.
+fn unended_note(alloc: Global, words: &[u8]) -> Result<Vec<u8>, AllocError>
+    ensures { IfOk result (λ text. text.items ≡ unended_note words.now) }
+{
+    let mut text = Vec::new(alloc);
+    text.extend_from_slice(b"crp: note: the last line of ")?;
+    text.extend_from_slice(words)?;
+    text.extend_from_slice(b" lacks its line end\n")?;
+    Ok(text)
+}
+
+// The first of these notes, or the second where a report with a line end is the one with its last line.
+fn end_note(
+    alloc: Global,
+    words: &[u8],
+    ended: &[u8],
+    report: &[u8],
+    bays: usize,
+) -> Result<Vec<u8>, AllocError>
+    ensures { IfOk result (λ note. note.items ≡ end_note words.now ended.now report.now bays) }
+{
+    if ended == report {
+        unended_note(alloc, words)
+    } else {
+        last_note(alloc, words, bays)
+    }
+}
+
 // The note on the bays behind those that stand there.
 fn behind_note(alloc: Global, bays: usize) -> Result<Vec<u8>, AllocError>
     ensures { IfOk result (λ text. text.items ≡ behind_note bays) }
@@ -62,12 +90,19 @@ fn behind_note(alloc: Global, bays: usize) -> Result<Vec<u8>, AllocError>
     Ok(text)
 }
 
-// Notes that the last line is lacking.
+// Notes that the last line is lacking, or its line end.
 #[tactic(auto, using(crate::proofs::Noted::shown_none))]
-fn note_last<E: Sink>(alloc: Global, words: &[u8], bays: usize, errors: &mut E)
+fn note_end<E: Sink>(
+    alloc: Global,
+    words: &[u8],
+    ended: &[u8],
+    report: &[u8],
+    bays: usize,
+    errors: &mut E,
+)
     ensures { ShowsMore (E.contents errors.old) (E.contents errors.new) }
 {
-    if let Ok(text) = last_note(alloc, words, bays) {
+    if let Ok(text) = end_note(alloc, words, ended, report, bays) {
         show(errors, &text);
     }
 }
@@ -82,7 +117,8 @@ pub(crate) fn note_behind<E: Sink>(alloc: Global, bays: usize, errors: &mut E)
     }
 }
 
-/// The report that a text is. One that may end early gets its last line where that is lacking, which is noted of a report that is called so.
+/// The report that a text is. One that may end early gets its last line where that is lacking, or only its
+/// line end is, which is noted of a report that is called so.
 #[tactic(auto, using(crate::proofs::Noted::unnoted))]
 pub(crate) fn whole_in<E: Sink>(
     alloc: Global,
@@ -97,9 +133,11 @@ pub(crate) fn whole_in<E: Sink>(
     if !partial {
         return Ok(Completed { text, bays: None });
     }
+    let mut ended = text.clone()?;
+    ended.push(b'\n')?;
     let whole = complete(alloc, text)?;
     if let Some(bays) = whole.bays {
-        note_last(alloc, words, bays, errors);
+        note_end(alloc, words, &ended, &whole.text, bays, errors);
     }
     Ok(whole)
 }

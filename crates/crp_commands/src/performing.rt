@@ -19,7 +19,7 @@ use std::sync::Wait;
 use std::thread::Threads;
 
 /// Does a command over one file, from a source of that file's bytes to the sink of its report. That a file to be checked holds no
-/// certificate is noted on `errors`. A search shows on the terminal how far it is, and sees its limit of time by its clock.
+/// certificate is noted on `errors`, and which moves of a report that is written anew are not of the restricted rule. A search shows on the terminal how far it is, and sees its limit of time by its clock.
 #[tactic(auto, using(crate::proofs::Noted::unnoted_in))]
 pub fn perform<T: Threads + Wait + Sync, S: Terminal + Sync, R: Source, W: Sink, E: Sink>(
     rt: &T,
@@ -50,6 +50,6 @@ pub fn perform<T: Threads + Wait + Sync, S: Terminal + Sync, R: Source, W: Sink,
             ..
         } => check(rt, alloc, reader, writer, errors, *any_size, *workers),
         FileCommand::Prove(search) => prove(rt, alloc, terminal, reader, writer, *search),
-        FileCommand::Rewrite => rewrite(alloc, reader, writer),
+        FileCommand::Rewrite => rewrite(alloc, reader, writer, errors),
     }
 }

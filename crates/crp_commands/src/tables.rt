@@ -17,15 +17,13 @@ fn table_of_moves(
     alloc: Global,
     followed: &Followed,
     ship: &Option<(Orders, Sequence)>,
-) -> Result<Vec<u8>, LoadingFault>
+) -> Result<Vec<u8>, AllocError>
     requires { AllByRecursion StandFew (map bay_followed followed.now.bays.items) }
-    ensures table { IfOk result (λ text. text.items ≡ table_for false ship.now (map bay_followed followed.now.bays.items)) }
-    ensures faultless { OnOk result (loading_faults ship.now (map bay_followed followed.now.bays.items) ≡ []) }
-    ensures refused { IfErr result (λ fault. (fault ≡ LoadingFault.Memory) ⊎ IsFirst (loading_faults ship.now (map bay_followed followed.now.bays.items)) fault) }
+    ensures { IfOk result (λ text. text.items ≡ table_for false ship.now (map bay_followed followed.now.bays.items)) }
 {
     match ship {
         Some((orders, sequence)) => load_table(alloc, followed, orders, sequence),
-        None => Ok(table_text(alloc, followed)?),
+        None => table_text(alloc, followed),
     }
 }
 
@@ -49,15 +47,27 @@ pub(crate) fn table_for(
     followed: &Followed,
     ship: &Option<(Orders, Sequence)>,
     summary: bool,
-) -> Result<Vec<u8>, LoadingFault>
+) -> Result<Vec<u8>, AllocError>
     requires { AllByRecursion StandFew (map bay_followed followed.now.bays.items) }
-    ensures table { IfOk result (λ text. text.items ≡ table_for summary ship.now (map bay_followed followed.now.bays.items)) }
-    ensures faultless { OnOk result (loading_faults ship.now (map bay_followed followed.now.bays.items) ≡ []) }
-    ensures refused { IfErr result (λ fault. (fault ≡ LoadingFault.Memory) ⊎ IsFirst (loading_faults ship.now (map bay_followed followed.now.bays.items)) fault) }
+    ensures { IfOk result (λ text. text.items ≡ table_for summary ship.now (map bay_followed followed.now.bays.items)) }
 {
-    let moves = table_of_moves(alloc, followed, ship)?;
     if summary {
-        return Ok(table_of_bays(alloc, followed, ship)?);
+        return table_of_bays(alloc, followed, ship);
     }
-    Ok(moves)
+    table_of_moves(alloc, followed, ship)
+}
+
+/// Whether the takes of a report that is followed load the ship in its order, where there is one, or the first fault.
+pub(crate) fn check_takes(
+    alloc: Global,
+    followed: &Followed,
+    ship: &Option<(Orders, Sequence)>,
+) -> Result<(), LoadingFault>
+    ensures right { OnOk result (loading_faults ship.now (map bay_followed followed.now.bays.items) ≡ []) }
+    ensures wrong { IfErr result (λ fault. (fault ≡ LoadingFault.Memory) ⊎ IsFirst (loading_faults ship.now (map bay_followed followed.now.bays.items)) fault) }
+{
+    match ship {
+        Some((orders, sequence)) => crp_loading::check_takes(alloc, followed, orders, sequence),
+        None => Ok(()),
+    }
 }

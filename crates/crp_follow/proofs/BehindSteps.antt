@@ -16,15 +16,14 @@ use Rattle.crp_yard.specs.Inventory.{Inventory, StackedBay, FitBay, IsYard, name
 use Rattle.crp_yard.specs.Text.{records_of_rows, records_of_yard, text_of_records}
 use Rattle.crp_yard.proofs.BuildingSteps.{take_next}
 use Rattle.crp_yard.proofs.YardSteps.{fit_rows, low_stacks}
-use Rattle.crp_said.specs.declared.numbers.Numbers.{Numbers}
 use Rattle.crp_said.specs.declared.moves.SaidMove.{SaidMove}
 use Rattle.crp_follow.specs.declared.fault.FollowFault.{FollowFault}
 use Rattle.crp_follow.specs.declared.fault.FollowFault.TheVariants as fault
 use Rattle.crp_follow.specs.declared.stated.StatedMove.{StatedMove}
 use Rattle.crp_follow.specs.Crane.{Stack, Leads}
-use Rattle.crp_follow.specs.Stated.{moves_of}
+use Rattle.crp_follow.specs.Stated.{BayStated, moves_of}
 use Rattle.crp_follow.specs.Faults.{rows_in, LeadsIn}
-use Rattle.crp_follow.specs.Followed.{BayFollowed, AreFollowed, IsFollowed}
+use Rattle.crp_follow.specs.Followed.{BayFollowed, AreFollowed}
 use Rattle.crp_follow.specs.MoveFaults.{StopsWith}
 use Rattle.crp_follow.specs.Behind.{Made, first_moves, made_in, IsBayBehind, AreBaysBehind, IsListBehind}
 use Rattle.crp_follow.proofs.InYard.{Fits, bay_at, found}
@@ -136,13 +135,12 @@ pub only_memory : (yard : Inventory) (bay : ℕ) (heights : List ℕ) (rows : Li
 only_memory yard bay heights rows moves f can tall stand wrong = only_memory_of yard.sizes (slice_get yard.bays bay) heights rows moves f can tall stand wrong
 
 -- the first moves of bays that are followed can be made in the bay of the yard that has this number and this name
-pub can_be_made_at : (yard : Inventory) (report : List ℕ) (numbers : Numbers) (counts : List ℕ) (bays : List BayFollowed) (i : ℕ) (name : YardBay) (moves : List SaidMove) → IsYard yard
-    → IsFollowed yard report numbers bays → name_at yard i ≡ Some name → moves ≡ made_in (first_moves counts bays) name
+pub can_be_made_at : (yard : Inventory) (stated : List BayStated) (counts : List ℕ) (bays : List BayFollowed) (i : ℕ) (name : YardBay) (moves : List SaidMove) → IsYard yard
+    → AreFollowed yard stated bays → name_at yard i ≡ Some name → moves ≡ made_in (first_moves counts bays) name
     → IfSome (slice_get yard.bays i) (λ b. (after : List Stack) × Leads (heights_at yard.sizes b.0) b.1 moves after)
-can_be_made_at yard report numbers counts bays i name moves is followed there made =
+can_be_made_at yard stated counts bays i name moves is are there made =
     let at = bay_at yard i name there in
     let stands : rows_in yard name ≡ Some at.rows = found yard i name name is there (same_bay_self name) ∙ ap (option_map (λ (b : StackedBay). b.1)) at.is in
-    let are : AreFollowed yard followed.stated bays = followed.followed in
     let can = can_be_made yard counts bays name at.rows are.leads stands in
     subst (λ (o : Option StackedBay). IfSome o (λ b. (after : List Stack) × Leads (heights_at yard.sizes b.0) b.1 moves after)) (sym at.is)
     (can.0, subst (λ (l : List SaidMove). Leads (heights_at yard.sizes name) at.rows l can.0) (sym made) can.1)

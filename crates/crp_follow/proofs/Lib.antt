@@ -22,4 +22,5 @@ pub mod FirstMoves
 mod BehindSteps
 mod YardBehind
 mod StoppingSteps
+mod PartSteps
 mod RewritingSteps

@@ -7,8 +7,11 @@ pub mod TextFaults
 pub mod MoveFaults
 pub mod Faults
 pub mod Followed
+pub mod Rule
 pub mod Rewritten
 pub mod Behind
+pub mod Parts
+pub mod Unstated
 pub mod Kept
 pub mod Table
 pub mod Summary

@@ -2,7 +2,7 @@
 use Rattle.std.specs.Prelude.{ℕ, ◌-◌, List, [], ◌∷◌, length, map, count_by, Option, Some, None, codes, decimal}
 use Rattle.crp_yard.specs.Text.{text_of_records}
 use Rattle.crp_said.specs.declared.said.Said.{Said}
-use Rattle.crp_said.specs.declared.said.Said.TheVariants.{Optimal, First, NoPlan, Between}
+use Rattle.crp_said.specs.declared.said.Said.TheVariants.{Optimal, First, NoPlan, Between, Outside}
 use Rattle.crp_said.specs.Said.{cause_words, count_said}
 use Rattle.crp_follow.specs.Faults.{is_shift}
 use Rattle.crp_follow.specs.Stated.{moves_of}
@@ -20,6 +20,7 @@ verdict_of (Optimal count) = codes "optimal"
 verdict_of (First count) = codes "optimal first"
 verdict_of NoPlan = codes "no plan"
 verdict_of (Between lower upper why) = codes "between"
+verdict_of (Outside count) = codes "outside the rule"
 
 -- the number that no plan has fewer relocations than, if one is said
 abbrev pub lower_of : Said → Option ℕ
@@ -27,6 +28,7 @@ lower_of (Optimal count) = Some count
 lower_of (First count) = Some count
 lower_of NoPlan = None
 lower_of (Between lower upper why) = Some lower
+lower_of (Outside count) = None
 
 -- why the bay is left open, if it is
 abbrev pub cause_of : Said → List ℕ
@@ -34,6 +36,7 @@ cause_of (Optimal count) = []
 cause_of (First count) = []
 cause_of NoPlan = []
 cause_of (Between lower upper why) = cause_words why
+cause_of (Outside count) = codes "edited"
 
 -- the relocations of a bay that its moves make
 abbrev pub relocations_of : BayFollowed → ℕ

@@ -1,12 +1,12 @@
 //! The yard as it stands when moves of a report were made.
-ghost use Rattle.std.specs.Prelude.{◌≡◌, ◌++◌, ◌<◌, ◌≤◌, ℕ, List, All, map, take, length, slice_get, IfOk, IfSome};
+ghost use Rattle.std.specs.Prelude.{◌≡◌, ◌++◌, ◌<◌, ◌≤◌, List, All, map, take, length, slice_get, IfOk, IfSome};
 ghost use Rattle.std.specs.List.{IsDistinct};
 ghost use Rattle.crp_plan.specs.BayNames.{same_bay};
 ghost use Rattle.crp_sizes.specs.Sizes.{heights_at};
 ghost use Rattle.crp_yard.specs.Text.{records_of_rows, text_of_records};
 ghost use Rattle.crp_follow.specs.Crane.{Stack, Leads};
-ghost use Rattle.crp_follow.specs.Stated.{moves_of};
-ghost use Rattle.crp_follow.specs.Followed.{IsFollowed};
+ghost use Rattle.crp_follow.specs.Stated.{BayStated, moves_of};
+ghost use Rattle.crp_follow.specs.Followed.{AreFollowed};
 ghost use Rattle.crp_follow.specs.Behind.{first_moves, all_moves, made_in, IsListBehind};
 ghost use Rattle.crp_follow.specs.Views.{bay_followed};
 
@@ -122,7 +122,7 @@ pub fn list_behind(
     followed: &Followed,
     counts: &[usize],
 ) -> Result<Vec<u8>, AllocError>
-    requires { (report : List ℕ) × IsFollowed yard.now report followed.now.numbers (map bay_followed followed.now.bays.items) }
+    requires { (stated : List BayStated) × AreFollowed yard.now stated (map bay_followed followed.now.bays.items) }
     ensures { IfOk result (λ text. IsListBehind yard.now (first_moves counts.now (map bay_followed followed.now.bays.items)) text.items) }
 {
     let names = names_of(alloc, &followed.bays)?;

@@ -4,7 +4,10 @@
 //! report are, whichever editor wrote it, in `specs/Lines.antt`, what it states line by line in `specs/Stated.antt`, what a report is that
 //! is followed in `specs/Followed.antt`, and why one is not in `specs/TextFaults.antt` and `specs/Faults.antt`. `write_table` writes the
 //! table of the moves, which `specs/Table.antt` defines, `summary_text` is the table of the bays (`specs/Summary.antt`), `compare_text` that
-//! of the bays of two reports of one yard (`specs/Compare.antt`), and `list_behind` the list of the yard as it stands when moves were made (`specs/Behind.antt`). `rewrite` gives a report whose moves were edited with lines that count them (`specs/Rewritten.antt`).
+//! of the bays of two reports of one yard (`specs/Compare.antt`), and `list_behind` the list of the yard as it stands when moves were made
+//! (`specs/Behind.antt`). `choose_part` gives what a report says of some bays (`specs/Parts.antt`, `specs/Unstated.antt`). `rewrite` gives a
+//! report whose moves were edited with lines that count them (`specs/Rewritten.antt`), and names the moves that are not of the restricted
+//! rule (`specs/Rule.antt`).
 #![tactic(auto)]
 
 mod bays;
@@ -17,15 +20,18 @@ mod following;
 mod laws;
 mod lines;
 mod moving;
+mod part;
 mod pushing;
 mod rewriting;
 mod row;
+mod rule;
 mod stated;
 mod stating;
 mod stopping;
 mod summary;
 mod table;
 mod taking;
+mod unstated;
 
 pub use bays::relocations_of;
 pub use behind::{list_behind, move_counts};
@@ -39,11 +45,14 @@ pub use laws::{
     what_columns_say, written_is_stated,
 };
 pub use moving::{make_move, row_index};
-pub use rewriting::rewrite;
+pub use part::Part;
+pub use rewriting::{Rewritten, rewrite};
 pub use row::Row;
+pub use rule::OutsideMove;
 pub use stated::{StatedBay, StatedMove};
 pub use stating::MAX_BYTES;
 pub use stopping::{Stopping, stopping_at_line};
 pub use summary::{push_summary, summary_table, summary_text};
 pub use table::{Table, number_field, table_text, write_table};
 pub use taking::{Taken, leaves_at, takes_of};
+pub use unstated::{Unstated, choose_part, first_unstated};

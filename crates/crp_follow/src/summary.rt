@@ -22,6 +22,7 @@ pub(crate) fn verdict_of(said: &Said) -> &[u8]
         Said::First(_) => b"optimal first",
         Said::NoPlan => b"no plan",
         Said::Between { .. } => b"between",
+        Said::Outside(_) => b"outside the rule",
     }
 }
 
@@ -31,7 +32,7 @@ fn lower_of(said: Said) -> Option<u64>
 {
     match said {
         Said::Optimal(count) | Said::First(count) => Some(u64::from(count)),
-        Said::NoPlan => None,
+        Said::NoPlan | Said::Outside(_) => None,
         Said::Between { lower, .. } => Some(u64::from(lower)),
     }
 }
@@ -50,8 +51,10 @@ fn upper_of(said: Said) -> Option<u64>
 fn cause_of(said: &Said) -> &[u8]
     ensures { result.now ≡ cause_of said.now }
 {
-    let Said::Between { cause, .. } = said else {
-        return b"";
+    let cause = match said {
+        Said::Between { cause, .. } => *cause,
+        Said::Outside(_) => SaidCause::Edited,
+        Said::Optimal(_) | Said::First(_) | Said::NoPlan => return b"",
     };
     match cause {
         SaidCause::Budget => b"budget",

@@ -3,3 +3,4 @@ pub mod Shown
 pub mod LineSteps
 pub mod FirstSteps
 pub mod AgainSteps
+pub mod CertificateSteps

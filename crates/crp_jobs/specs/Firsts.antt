@@ -7,6 +7,7 @@ use Rattle.crp_plan.specs.BayNames.{YardBay}
 use Rattle.crp_sizes.specs.Fields.{records_of, field_of, is_block, is_number, has_number, bay_named}
 use Rattle.crp_sizes.specs.Heights.{heights_text}
 use Rattle.crp_sizes.specs.Sizes.{YardSizes, heights_at}
+use Rattle.crp_separated.specs.Inputs.{comma_list}
 use Rattle.crp_yard.specs.Places.{same_place}
 use Rattle.crp_yard.specs.Records.{place_named}
 use Rattle.crp_places.specs.Lines.{line_of}
@@ -52,10 +53,11 @@ first_like how records n =
 abbrev pub first_words : List ℕ → ℕ → ℕ → List ℕ
 first_words what first line = codes ", the first is " ++ (what ++ (decimal first ++ (codes " at line " ++ decimal line)))
 
--- on the first record that is like the one with this number, if there is one
-abbrev pub words_on_first : Alike → List ℕ → ℕ → Option (List ℕ)
-words_on_first how text n =
-    option_and_then (λ first. option_map (λ offset. first_words (codes "record ") first (line_of text offset)) (record_start text first)) (first_like how (records_of text) n)
+-- on the first record of a list with this byte between its fields that is like the one with this number, if there is one
+abbrev pub words_on_first : Alike → ℕ → List ℕ → ℕ → Option (List ℕ)
+words_on_first how separator text n =
+    option_and_then (λ first. option_map (λ offset. first_words (codes "record ") first (line_of text offset)) (record_start separator text first))
+    (first_like how (records_of (comma_list separator text)) n)
 
 -- a number of things: one of them, or several
 abbrev pub counted : ℕ → List ℕ → List ℕ → List ℕ
@@ -98,6 +100,6 @@ said_with n text None words = end_text text
 said_with n text (Some offset) None = place_text (codes "record ") n (line_of text offset) (line_front (drop offset text))
 said_with n text (Some offset) (Some words) = detailed_text (codes "record ") n (line_of text offset) words (line_front (drop offset text))
 
--- the line on the record with this number, with these words if there are any
-abbrev pub IsDetailedLine : ℕ → List ℕ → Option (List ℕ) → List ℕ → Type 0
-IsDetailedLine n text words line = line ≡ shown (said_with n text (record_start text n) words)
+-- the line on the record with this number, of a list with this byte between its fields, with these words if there are any
+abbrev pub IsDetailedLine : ℕ → ℕ → List ℕ → Option (List ℕ) → List ℕ → Type 0
+IsDetailedLine separator n text words line = line ≡ shown (said_with n text (record_start separator text n) words)

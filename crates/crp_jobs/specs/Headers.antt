@@ -1,12 +1,11 @@
 -- What is said of a list without its header.
-use Rattle.std.specs.Prelude.{ℕ, Bool, ◌==◌, List, [], ◌++◌, length, take, drop, unwrap_or, slice_index_or, if◌then◌else◌, codes}
-use Rattle.std.specs.List.{list_any}
+use Rattle.std.specs.Prelude.{ℕ, Bool, ◌&&◌, ◌==◌, nat_le, List, [], ◌++◌, length, take, drop, zip, unwrap_or, slice_index_or, if◌then◌else◌, codes}
+use Rattle.std.specs.List.{list_all, list_any}
 use Rattle.std.specs.Char.{is_ascii_uppercase}
 use Rattle.std.specs.Str.{str_eq_ignore_ascii_case}
 use Rattle.edi_text.specs.Reading.{after_line_ends}
 use Rattle.crp_jobs.specs.declared.headers.ListKind.{ListKind}
 use Rattle.crp_jobs.specs.declared.headers.ListKind.TheVariants as list
-use Rattle.crp_jobs.specs.Found.{begins}
 use Rattle.crp_jobs.specs.Instead.{words_for_list, words_on}
 use Rattle.crp_jobs.specs.Placed.{line_front}
 
@@ -31,10 +30,25 @@ abbrev pub header_and_more : ListKind → List ℕ
 header_and_more list.Yard = codes "block,bay,row,tier,container,"
 header_and_more list.Sizes = codes "block,bay,heights,"
 
--- of a first line that is no header
-abbrev pub no_header : ListKind → List ℕ
-no_header list.Yard = codes ": a header must come first: block,bay,row,tier,container"
-no_header list.Sizes = codes ": a header must come first: block,bay,heights"
+-- a byte of a header with commas is this one, with this byte in place of the commas
+abbrev pub stands_for : ℕ → ℕ × ℕ → Bool
+stands_for separator pair = if pair.0 == 44 then pair.1 == separator else pair.1 == pair.0
+
+-- the line begins so, with this byte in place of the commas
+abbrev pub begins_parted : ℕ → List ℕ → List ℕ → Bool
+begins_parted separator header line = nat_le (length header) (length line) && list_all (stands_for separator) (zip header line)
+
+-- of a first line that is no header, of a list with commas, and of another
+abbrev pub no_comma_header : ListKind → List ℕ
+no_comma_header list.Yard = codes ": a header must come first: block,bay,row,tier,container"
+no_comma_header list.Sizes = codes ": a header must come first: block,bay,heights"
+
+abbrev pub no_other_header : ListKind → List ℕ
+no_other_header list.Yard = codes ": a header must come first, with the words block, bay, row, tier and container"
+no_other_header list.Sizes = codes ": a header must come first, with the words block, bay and heights"
+
+abbrev pub no_header : ListKind → ℕ → List ℕ
+no_header kind separator = if separator == 44 then no_comma_header kind else no_other_header kind
 
 -- of a header with further columns
 abbrev pub too_many_columns : ListKind → List ℕ
@@ -42,23 +56,28 @@ too_many_columns list.Yard = codes ": it has further columns, and may have only 
 too_many_columns list.Sizes = codes ": it has further columns, and may have only the first three"
 
 -- what is wrong with a line that begins as a header does, where that is plain to see
-abbrev pub wrong_header : ListKind → List ℕ → List ℕ
-wrong_header kind line =
-    if begins (header_and_more kind) line then too_many_columns kind else
+abbrev pub wrong_header : ListKind → ℕ → List ℕ → List ℕ
+wrong_header kind separator line =
+    if begins_parted separator (header_and_more kind) line then too_many_columns kind else
     if list_any is_ascii_uppercase line then codes ": its words must be in small letters" else []
 
--- what is wrong with a line in the place of the header of a list, where that is plain to see
-abbrev pub wrong_with : ListKind → List ℕ → List ℕ
-wrong_with kind line =
+-- what is wrong with the words of a line in the place of a header, where that is plain to see
+abbrev pub wrong_words : ListKind → ℕ → List ℕ → List ℕ
+wrong_words kind separator line = if begins_as_header line then wrong_header kind separator line else no_header kind separator
+
+-- what is wrong with a line in the place of the header of a list with this byte between its fields: where it has none of these, which other byte it has
+abbrev pub wrong_with : ListKind → ℕ → List ℕ → List ℕ
+wrong_with kind separator line =
     if length line == 0 then codes "empty lines" else
-    if has 59 line then codes ": its fields must stand between commas, not semicolons" else
-    if has 9 line then codes ": its fields must stand between commas, not tabs" else
-    if begins_as_header line then wrong_header kind line else no_header kind
+    if has separator line then wrong_words kind separator line else
+    if has 59 line then codes ": semicolons stand between its fields: give --separator ';'" else
+    if has 9 line then codes ": tabs stand between its fields: give --separator and a tab between quotes" else
+    if has 44 line then codes ": commas stand between its fields: leave --separator out" else wrong_words kind separator line
 
 -- what is said of the first line of a list
-abbrev pub header_text : ListKind → List ℕ → List ℕ
-header_text kind front = codes "the file begins with " ++ (first_line front ++ wrong_with kind (first_line front))
+abbrev pub header_text : ListKind → ℕ → List ℕ → List ℕ
+header_text kind separator front = codes "the file begins with " ++ (first_line front ++ wrong_with kind separator (first_line front))
 
 -- what is said of a list without its header: by the kind of the file, or by its first line
-abbrev pub list_text : ListKind → List ℕ → List ℕ
-list_text kind front = unwrap_or (words_on words_for_list front) (header_text kind front)
+abbrev pub list_text : ListKind → ℕ → List ℕ → List ℕ
+list_text kind separator front = unwrap_or (words_on words_for_list front) (header_text kind separator front)

@@ -13,7 +13,9 @@ pub mod Firsts
 pub mod ListLines
 pub mod MessageLines
 pub mod ReportLines
+pub mod Partial
 pub mod Moves
 pub mod OtherSettings
 pub mod ReportFaults
+pub mod CertificateLines
 pub mod FaultLines

@@ -2,6 +2,7 @@
 use Rattle.std.specs.Prelude.{◌≡◌, ℕ, Bool, ◌+◌, ◌-◌, ◌==◌, nat_le, List, [], ◌∷◌, ◌++◌, length, slice_get, slice_index_or, Option, Some, None, IfSome, option_and_then, if◌then◌else◌, codes}
 use Rattle.std.specs.Fmt.{decimal}
 use Rattle.crp_sizes.specs.Sizes.{YardSizes}
+use Rattle.crp_separated.specs.Inputs.{comma_list}
 use Rattle.crp_yard.specs.Inventory.{Inventory}
 use Rattle.crp_yard.specs.Reading.{IsYardListOf}
 use Rattle.crp_yard.specs.Records.{height_of}
@@ -10,13 +11,15 @@ use Rattle.crp_said.specs.declared.moves.SaidMove.{SaidMove}
 use Rattle.crp_said.specs.declared.moves.SaidMove.TheVariants.{Shift, Take}
 use Rattle.crp_follow.specs.Crane.{Stack, stack_of, from_of, container_of}
 use Rattle.crp_follow.specs.Stopping.{StandsBefore}
-use Rattle.crp_files.specs.Known.{KnownFiles, IsFront}
+use Rattle.crp_files.specs.Known.{KnownFiles}
 use Rattle.crp_jobs.specs.declared.job.Job.{Job}
 use Rattle.crp_jobs.specs.declared.move_words.Wrong.{Wrong}
 use Rattle.crp_jobs.specs.declared.move_words.Wrong.TheVariants as wrong
 use Rattle.crp_jobs.specs.Firsts.{counted}
 use Rattle.crp_jobs.specs.ListLines.{HasSizes}
+use Rattle.crp_jobs.specs.Partial.{is_partial, IsOfReport}
 use Rattle.crp_jobs.specs.Placed.{shown, sizes_named, sizes_of, yard_named, IsOfFront}
+use Rattle.crp_jobs.specs.Sized.{separator_of}
 
 -- ---- words on a row
 
@@ -112,19 +115,22 @@ move_text n what heights rows m = codes "line " ++ (decimal n ++ wrong_text what
 -- the yard is that of the list of a job which has these sizes of bays, unless it names a list of sizes
 abbrev pub HasYard : KnownFiles → Job → YardSizes → List ℕ → Inventory → Type 0
 HasYard known j chosen name yard =
-    (sizes : YardSizes) × HasSizes known (sizes_named j) chosen sizes × IsOfFront (known.given name) (λ text. IsYardListOf sizes text yard)
+    (sizes : YardSizes) × HasSizes known (separator_of j) (sizes_named j) chosen sizes
+    × IsOfFront (known.given name) (λ text. IsYardListOf sizes (comma_list (separator_of j) text) yard)
 
--- the line on the move at this line, of which this is wrong: of the yard and the report as they are read again, by what stands in the bay before the move
-pub record IsMoveLineIn (given : Option (List ℕ)) (yard : Inventory) (what : Wrong) (n : ℕ) (line : List ℕ) : Type 0 where
-  pub report : List ℕ
+-- the line on the move at this line of a report, of which this is wrong: by what stands in the bay before the move
+pub record IsMoveLineIn (report : List ℕ) (yard : Inventory) (what : Wrong) (n : ℕ) (line : List ℕ) : Type 0 where
   pub said : SaidMove
   pub heights : List ℕ
   pub rows : List Stack
-  pub front : IsFront given report
   pub before : StandsBefore yard report n said heights rows
   pub line_is : line ≡ shown (move_text n what heights rows said)
 
--- the same of a report of a job, over its yard
+-- the same over the yard of a job, as it is read again
+abbrev pub IsMoveLineOf : KnownFiles → Job → List ℕ → Wrong → ℕ → List ℕ → Type 0
+IsMoveLineOf known j report what n line =
+    IfSome (sizes_of j) (λ chosen. IfSome (yard_named j) (λ name. (yard : Inventory) × HasYard known j chosen name yard × IsMoveLineIn report yard what n line))
+
+-- the same of a report of the job, as it is read again
 abbrev pub IsMoveLine : KnownFiles → Job → Option (List ℕ) → Wrong → ℕ → List ℕ → Type 0
-IsMoveLine known j given what n line =
-    IfSome (sizes_of j) (λ chosen. IfSome (yard_named j) (λ name. (yard : Inventory) × HasYard known j chosen name yard × IsMoveLineIn given yard what n line))
+IsMoveLine known j given what n line = IsOfReport (is_partial j) given (λ report bays. IsMoveLineOf known j report what n line)

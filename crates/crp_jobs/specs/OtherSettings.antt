@@ -2,6 +2,7 @@
 -- numbers the input gives. The yard list, the message and the report are read again.
 use Rattle.std.specs.Prelude.{◌≡◌, ◌↔◌, ℕ, Bool, IsTrue, List, [], ◌++◌, Option, replicate, if◌then◌else◌, codes}
 use Rattle.crp_sizes.specs.Sizes.{YardSizes, one_size}
+use Rattle.crp_separated.specs.Inputs.{comma_list}
 use Rattle.crp_yard.specs.Inventory.{Inventory}
 use Rattle.crp_yard.specs.Reading.{IsYardListOf}
 use Rattle.crp_movins.specs.Loading.{Loading}
@@ -20,6 +21,7 @@ use Rattle.crp_jobs.specs.declared.job.AuditFiles.{AuditFiles}
 use Rattle.crp_jobs.specs.declared.job.Job.{Job}
 use Rattle.crp_jobs.specs.declared.job.Job.TheVariants as job
 use Rattle.crp_jobs.specs.Moves.{HasYard}
+use Rattle.crp_jobs.specs.Partial.{IsReportIn, part_of}
 use Rattle.crp_jobs.specs.Placed.{IsOfFront, line_front}
 use Rattle.crp_jobs.specs.ReportLines.{IsEndedLine}
 
@@ -38,15 +40,19 @@ largest = one_size (replicate 12 8)
 abbrev pub HasOrders : KnownFiles → AuditFiles → Loading → LoadOrders → Type 0
 HasOrders known names loading orders = IsOfFront (known.given names.movins.now) (λ text. AreOrders loading text orders)
 
--- whether the moves of the report of an audit fit this yard, where the ordered containers leave in the order of this mode
+-- whether the moves of the report of an audit fit this yard, where the ordered containers leave in the order of this mode; of one that ends early these are
+-- the moves of the bays that stand there
 pub record AreFitting (known : KnownFiles) (names : AuditFiles) (chosen : InputChosen) (yard : Inventory) (mode : Mode) (fit : Bool) : Type 0 where
   pub orders : LoadOrders
   pub sequence : List (List ℕ)
+  pub text : List ℕ
   pub report : List ℕ
+  pub bays : Option ℕ
   pub ordered : HasOrders known names chosen.loading orders
   pub in_sequence : IsSequenceOf mode chosen.bays yard orders.list sequence
-  pub front : IsFront (known.given names.report.now) report
-  pub fit_is : IsTrue fit ↔ MovesFit (handed yard orders sequence report [])
+  pub front : IsFront (known.given names.report.now) text
+  pub whole : IsReportIn names.partial text report bays
+  pub fit_is : IsTrue fit ↔ MovesFit (handed yard orders (part_of bays yard sequence) report [])
 
 -- whether they fit where the containers leave in the other order
 abbrev pub FitOtherOrder : KnownFiles → Job → AuditFiles → InputChosen → Bool → Type 0
@@ -56,7 +62,7 @@ FitOtherOrder known j names chosen fit =
 -- whether they fit where all bays are of the largest size
 abbrev pub FitLargest : KnownFiles → AuditFiles → InputChosen → Bool → Type 0
 FitLargest known names chosen fit =
-    (yard : Inventory) × IsOfFront (known.given names.yard.now) (λ text. IsYardListOf largest text yard) × AreFitting known names chosen yard chosen.mode fit
+    (yard : Inventory) × IsOfFront (known.given names.yard.now) (λ text. IsYardListOf largest (comma_list names.separator text) yard) × AreFitting known names chosen yard chosen.mode fit
 
 -- ---- words
 

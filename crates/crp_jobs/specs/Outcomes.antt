@@ -57,6 +57,7 @@ exit_code (Err (fault.TooLargeOf which)) = 3
 exit_code (Err (fault.Followed f)) = 3
 exit_code (Err (fault.Second f)) = 3
 exit_code (Err (fault.Loaded f)) = 3
+exit_code (Err (fault.Unstated u)) = 3
 exit_code (Err (fault.Sizes f)) = 3
 exit_code (Err fault.Memory) = 4
 exit_code (Err fault.Read) = 5

@@ -131,9 +131,9 @@ abbrev pub said_at : List ℕ → ℕ → List ℕ → Option ℕ → List ℕ
 said_at what n text None = end_text text
 said_at what n text (Some offset) = place_text what n (line_of text offset) (line_front (drop offset text))
 
--- the line on a record, by its number
-abbrev pub IsRecordLine : ℕ → List ℕ → List ℕ → Type 0
-IsRecordLine n text line = line ≡ shown (said_at (codes "record ") n text (record_start text n))
+-- the line on a record, by its number, of a list with this byte between its fields
+abbrev pub IsRecordLine : ℕ → ℕ → List ℕ → List ℕ → Type 0
+IsRecordLine separator n text line = line ≡ shown (said_at (codes "record ") n text (record_start separator text n))
 
 -- the line on an offset
 abbrev pub IsOffsetLine : ℕ → List ℕ → List ℕ → Type 0

@@ -55,4 +55,5 @@ IsAuditLine known j given (audited.Other bay) line = ⊥
 IsAuditLine known j given (audited.Lacking bay) line = ⊥
 IsAuditLine known j given audited.LeftOver line = ⊥
 IsAuditLine known j given audited.Closing line = ⊥
+IsAuditLine known j given (audited.Outside bay) line = ⊥
 IsAuditLine known j given audited.Memory line = ⊥

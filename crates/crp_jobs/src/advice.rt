@@ -2,7 +2,7 @@
 ghost use Rattle.crp_jobs.specs.Advice.{IsPlainLine};
 
 use crate::certificate_advice::{advice_on_certificate, advice_on_plan, advice_on_refused};
-use crate::follow_advice::{advice_on_follow, advice_on_loading};
+use crate::follow_advice::{advice_on_follow, advice_on_loading, advice_on_unstated};
 use crate::outcome::{Statement, ToolFault};
 use crate::run_advice::advice_on_run;
 use crate::sizes_advice::{SIZES_NOT_READ, advice_on_sizes};
@@ -51,6 +51,9 @@ fn advice_on_audit(fault: &AuditFault) -> &'static str
             "certificates are left over behind that of the last bay: one must be there for each bay",
         AuditFault::Closing =>
             "the last line must count the bays of the report, and those that are optimal or have no plan",
+        AuditFault::Outside { .. } => {
+            "nothing is claimed of this bay, whose moves are outside the rule: crp follow says whether a crane can make them"
+        }
         AuditFault::Memory => MEMORY,
     }
 }
@@ -67,6 +70,7 @@ pub fn advice_on(fault: &ToolFault) -> &'static str
         ToolFault::Audited(fault) => advice_on_audit(fault),
         ToolFault::Followed(fault) | ToolFault::Second(fault) => advice_on_follow(fault),
         ToolFault::Loaded(fault) => advice_on_loading(fault),
+        ToolFault::Unstated(unstated) => advice_on_unstated(*unstated),
         ToolFault::Sizes(fault) => advice_on_sizes(fault),
         ToolFault::Run(fault) => advice_on_run(fault),
         ToolFault::ReadOf(Statement::Report) => {
@@ -91,7 +95,9 @@ pub fn advice_on(fault: &ToolFault) -> &'static str
         ToolFault::WritePage => {
             "the page could not be written: the folder must be there and let you write, and its disk must not be full"
         }
-        ToolFault::TooLarge => "a file of certificates may have at most 268435456 bytes",
+        ToolFault::TooLarge => {
+            "a file of certificates may have at most 268435456 bytes; crp check takes a larger one with --any-size"
+        }
         ToolFault::OneFile(_) => {
             "each file needs a name of its own, since what is written is emptied first"
         }

@@ -56,29 +56,37 @@ fn said_with(
 // The line on the record with this number, with these words if there are any.
 fn detailed_line(
     alloc: Global,
+    separator: u8,
     number: usize,
     text: &[u8],
     words: Option<&[u8]>,
 ) -> Result<FoundLine, AllocError>
-    ensures said { IfOk result (λ line. IsDetailedLine number text.now (option_map (λ w. w.now) words.entry) line.items) }
+    ensures said { IfOk result (λ line. IsDetailedLine separator number text.now (option_map (λ w. w.now) words.entry) line.items) }
     ensures plain { IfOk result (λ line. IsPlainText line.items) }
 {
-    let said = said_with(alloc, number, text, record_at(text, number), words)?;
+    let said = said_with(
+        alloc,
+        number,
+        text,
+        record_at(text, separator, number),
+        words,
+    )?;
     Ok(shown(said.as_slice()))
 }
 
-/// The line on the record with this number, with words of which there may be none.
+/// The line on the record with this number, of a list with this byte between its fields, with words of which there may be none.
 pub(crate) fn line_with(
     alloc: Global,
+    separator: u8,
     number: usize,
     text: &[u8],
     words: &Option<Vec<u8>>,
 ) -> Result<FoundLine, AllocError>
-    ensures said { IfOk result (λ line. IsDetailedLine number text.now (option_map (λ w. w.items) words.now) line.items) }
+    ensures said { IfOk result (λ line. IsDetailedLine separator number text.now (option_map (λ w. w.items) words.now) line.items) }
     ensures plain { IfOk result (λ line. IsPlainText line.items) }
 {
     match words {
-        Some(words) => detailed_line(alloc, number, text, Some(words.as_slice())),
-        None => detailed_line(alloc, number, text, None),
+        Some(words) => detailed_line(alloc, separator, number, text, Some(words.as_slice())),
+        None => detailed_line(alloc, separator, number, text, None),
     }
 }

@@ -66,6 +66,7 @@ fn place_in_file<'a>(file: &'a str, fault: &ToolFault) -> Option<Place<'a>>
         | ToolFault::Followed(_)
         | ToolFault::Second(_)
         | ToolFault::Loaded(_)
+        | ToolFault::Unstated(_)
         | ToolFault::Sizes(_)
         | ToolFault::ReadSizes
         | ToolFault::ReadSecond

@@ -4,6 +4,7 @@ ghost use Rattle.csv.specs.Records.{fields_of};
 ghost use Rattle.crp_sizes.specs.Fields.{field_of, is_number, number_of};
 ghost use Rattle.crp_jobs.specs.Firsts.{are_alike, first_like, first_words, name_one_container, name_one_place, names_bay, names_place, words_on_first};
 
+use crate::commas::comma_list;
 use crate::records::{first_records, record_with};
 use crp_cert::push_decimal;
 use crp_places::{line_at, record_at};
@@ -112,20 +113,22 @@ pub(crate) fn first_words(
     Ok(words)
 }
 
-/// The words on the first record that is like the one with this number, if there is one.
+/// The words on the first record of a list with this byte between its fields that is like the one with this number, if there is one.
 pub(crate) fn words_on_first(
     alloc: Global,
     how: Alike,
+    separator: u8,
     text: &[u8],
     number: usize,
 ) -> Result<Option<Vec<u8>>, AllocError>
-    ensures { IfOk result (λ words. option_map (λ w. w.items) words ≡ words_on_first how text.now number) }
+    ensures { IfOk result (λ words. option_map (λ w. w.items) words ≡ words_on_first how separator text.now number) }
 {
-    let records = first_records(alloc, text, number)?;
+    let list = comma_list(alloc, text, separator)?;
+    let records = first_records(alloc, &list, number)?;
     let Some(first) = first_like(how, records.as_slice(), number) else {
         return Ok(None);
     };
-    match record_at(text, first) {
+    match record_at(text, separator, first) {
         Some(offset) => Ok(Some(first_words(alloc, b"record ", first, line_at(text, offset))?)),
         None => Ok(None),
     }

@@ -2,7 +2,7 @@
 ghost use Rattle.crp_jobs.specs.Advice.{IsPlainLine};
 
 use crate::advice::MEMORY;
-use crp_follow::FollowFault;
+use crp_follow::{FollowFault, Unstated};
 use crp_loading::LoadingFault;
 
 /// Of a report that is followed.
@@ -54,5 +54,19 @@ pub(crate) fn advice_on_loading(fault: &LoadingFault) -> &'static str
             "the message does not order this container to be loaded: look at the message, and at --code"
         }
         LoadingFault::Memory => MEMORY,
+    }
+}
+
+/// Of what is named and that a report has not.
+pub(crate) fn advice_on_unstated(unstated: Unstated) -> &'static str
+    ensures { IsPlainLine result.now }
+{
+    match unstated {
+        Unstated::Bay(_) => {
+            "the report has no line of this bay: --bay takes the name of a bay as its line has it, such as 'A 1'"
+        }
+        Unstated::Block(_) => {
+            "the report has no bay of this block: --block takes what stands before the number of a bay"
+        }
     }
 }

@@ -1,9 +1,11 @@
 //! What the program may be asked for.
 
 ghost use Rattle.std.specs.Prelude.{◌≡◌, IfOk, option_map};
+ghost use Rattle.crp_jobs.specs.Partial.{is_partial};
 ghost use Rattle.crp_jobs.specs.Printed.{is_json, is_json_by};
 ghost use Rattle.crp_jobs.specs.Sized.{list_named, separator_of, with_sizes};
 
+use crp_follow::Part;
 use crp_report::{InputSettings, RunSettings};
 use crp_sizes::Sizes;
 use crp_solve::Settings;
@@ -101,7 +103,7 @@ pub struct AfterFile<'a> {
 }
 
 /// The files of a report that is followed, by their names.
-#[derive(Clone, Copy)]
+#[derive(Drop)]
 pub struct FollowFiles<'a> {
     /// The yard list.
     pub yard: &'a str,
@@ -119,6 +121,8 @@ pub struct FollowFiles<'a> {
     pub page: Option<&'a str>,
     /// What gets the yard as its moves leave it, if it is wanted.
     pub after: Option<AfterFile<'a>>,
+    /// The bays whose moves are wanted.
+    pub part: Part<'a>,
     /// The byte between the fields of its lists: a comma, unless another one is asked for.
     pub separator: u8,
 }
@@ -193,6 +197,27 @@ pub enum Job<'a> {
     },
 }
 
+impl<'a> FollowFiles<'a> {
+    // The same files.
+    fn copy(&self, alloc: Global) -> Result<FollowFiles<'a>, AllocError>
+        ensures { IfOk result (λ files. files ≡ self.now) }
+    {
+        let part = self.part.copy(alloc)?;
+        Ok(FollowFiles {
+            yard: self.yard,
+            sizes: self.sizes,
+            report: self.report,
+            partial: self.partial,
+            summary: self.summary,
+            movins: self.movins,
+            page: self.page,
+            after: self.after,
+            part,
+            separator: self.separator,
+        })
+    }
+}
+
 impl FileCommand {
     /// Whether what it writes is to be printed as JSON Lines.
     pub fn is_json(&self) -> bool
@@ -229,6 +254,18 @@ impl<'a> Job<'a> {
             Job::Follow { files, .. } => files.separator,
             Job::Compare { files, .. } => files.separator,
             Job::Solve { files, .. } => files.separator,
+        }
+    }
+
+    /// Whether its reports may end early.
+    pub fn is_partial(&self) -> bool
+        ensures { result ≡ is_partial self.now }
+    {
+        match self {
+            Job::Audit { files, .. } => files.partial,
+            Job::Follow { files, .. } => files.partial,
+            Job::Compare { files, .. } => files.partial,
+            Job::OneFile { .. } | Job::Absent { .. } | Job::Solve { .. } => false,
         }
     }
 
@@ -273,7 +310,7 @@ impl<'a> Job<'a> {
                 settings: settings.sized(alloc, sizes)?,
             },
             Job::Follow { files, settings } => Job::Follow {
-                files: *files,
+                files: files.copy(alloc)?,
                 settings: settings.sized(alloc, sizes)?,
             },
             Job::Compare { files, settings } => Job::Compare {

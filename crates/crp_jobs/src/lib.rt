@@ -7,6 +7,8 @@
 mod advice;
 mod bay_words;
 mod certificate_advice;
+mod certificate_lines;
+mod commas;
 mod detailed;
 mod failed;
 mod firsts;
@@ -25,6 +27,7 @@ mod names;
 mod ordered_again;
 mod other_settings;
 mod outcome;
+mod partial;
 mod placed;
 mod plain;
 mod records;

@@ -123,8 +123,8 @@ pub(crate) fn message_named<'a>(job: &Job<'a>) -> Option<&'a str>
     }
 }
 
-// A report that is followed, unless it is read from the standard input.
-fn report_name(report: &str) -> Option<&str>
+/// A file of this name, unless it is read from the standard input.
+pub(crate) fn report_name(report: &str) -> Option<&str>
     ensures { option_map (λ name. name.now) result ≡ report_name report.now }
 {
     if report == "-" { None } else { Some(report) }

@@ -7,9 +7,10 @@ ghost use Rattle.crp_jobs.specs.OtherSettings.{AreFitting, AreInputNumbers, AreS
 
 use crate::job::{AuditFiles, Job};
 use crate::moves::{yard_again, yard_of_job};
+use crate::partial::{part_of, report_again};
 use crate::placed::line_front;
 use crate::plain::FoundLine;
-use crate::report_lines::{MOST_REPORT, line_on_ended};
+use crate::report_lines::line_on_ended;
 use crp_audit::moves_fit;
 use crp_files::Files;
 use crp_movins::{Loading, Orders, load_orders};
@@ -72,11 +73,14 @@ fn fit_yard<F: Files>(
     ensures { IfSome result (AreFitting (F.known files.now) names.now settings.now yard.now mode) }
 {
     let orders = orders_again(alloc, files, names, settings.loading())?;
-    let report = files.begins(alloc, names.report, MOST_REPORT)?;
+    let report = report_again(alloc, files, names.report, names.partial)?;
     let Ok(sequence) = sequence_of_bays(alloc, yard, settings.bays(), orders, mode) else {
         return None;
     };
-    let Ok(fit) = moves_fit(alloc, yard, &sequence, report.as_slice()) else {
+    let Ok(part) = part_of(alloc, yard, sequence, report.bays) else {
+        return None;
+    };
+    let Ok(fit) = moves_fit(alloc, yard, &part, report.text.as_slice()) else {
         return None;
     };
     Some(fit)
@@ -106,7 +110,7 @@ fn fit_largest<F: Files>(
 ) -> Option<bool>
     ensures { IfSome result (FitLargest (F.known files.now) names.now settings.now) }
 {
-    let yard = yard_again(alloc, files, names.yard, &largest(alloc))?;
+    let yard = yard_again(alloc, files, names.separator, names.yard, &largest(alloc))?;
     fit_yard(alloc, files, names, settings, &yard, settings.mode())
 }
 

@@ -8,7 +8,7 @@ use crp_audit::AuditFault;
 use crp_cert::CertFault;
 use crp_checker::Refused;
 use crp_files::Shared;
-use crp_follow::FollowFault;
+use crp_follow::{FollowFault, Unstated};
 use crp_loading::LoadingFault;
 use crp_plan::{PlanFault, ReadFailed, ReadFault, WriteFailed};
 use crp_report::{Fault, Status};
@@ -61,6 +61,9 @@ pub enum ToolFault {
     /// The takes of a report that is followed do not load the ship in its order, with the first fault.
     #[error("{0}")]
     Loaded(LoadingFault),
+    /// A report that is followed has not what is named as the part of it that is wanted.
+    #[error("{0}")]
+    Unstated(Unstated),
     /// A run over a yard did not do what it was asked for.
     #[error("{0}")]
     Run(Fault),
@@ -257,6 +260,7 @@ pub fn exit_of(answer: &Result<Status, ToolFault>) -> u8
             | ToolFault::Followed(_)
             | ToolFault::Second(_)
             | ToolFault::Loaded(_)
+            | ToolFault::Unstated(_)
             | ToolFault::Sizes(_),
         ) => 3,
         Ok(Status::Memory) | Err(ToolFault::Memory) => 4,

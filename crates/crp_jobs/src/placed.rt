@@ -99,16 +99,23 @@ pub(crate) fn shown(text: &[u8]) -> FoundLine
     line
 }
 
-/// The line on a record, by its number.
+/// The line on a record, by its number, of a list with this byte between its fields.
 pub(crate) fn line_on_record(
     alloc: Global,
+    separator: u8,
     number: usize,
     text: &[u8],
 ) -> Result<FoundLine, AllocError>
-    ensures placed { IfOk result (λ line. IsRecordLine number text.now line.items) }
+    ensures placed { IfOk result (λ line. IsRecordLine separator number text.now line.items) }
     ensures plain { IfOk result (λ line. IsPlainText line.items) }
 {
-    let said = said_at(alloc, b"record ", number, text, record_at(text, number))?;
+    let said = said_at(
+        alloc,
+        b"record ",
+        number,
+        text,
+        record_at(text, separator, number),
+    )?;
     Ok(shown(said.as_slice()))
 }
 

@@ -152,6 +152,7 @@ pub(crate) fn line_on_audit<F: Files>(
         | AuditFault::Lacking { .. }
         | AuditFault::LeftOver
         | AuditFault::Closing
+        | AuditFault::Outside { .. }
         | AuditFault::Memory => None,
     }
 }

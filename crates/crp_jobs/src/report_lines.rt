@@ -41,8 +41,8 @@ fn behind_line(text: &[u8]) -> Option<&[u8]>
     }
 }
 
-// The line with this number, from 1, if there is one.
-fn line_numbered(text: &[u8], number: u64) -> Option<&[u8]>
+/// The line with this number, from 1, if there is one.
+pub(crate) fn line_numbered(text: &[u8], number: u64) -> Option<&[u8]>
     ensures { option_map (λ line. line.now) result ≡ line_numbered text.now number }
 {
     if number == 0 {

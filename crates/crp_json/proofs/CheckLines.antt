@@ -141,6 +141,7 @@ settled_is bay (said.First count) shown e small =
 settled_is bay said.NoPlan shown e small =
     subst (λ v. IsSmallVerdict v × (words_of_bay bay said.NoPlan ≡ words_of_shown bay v)) (same_Some verdict.NoPlan shown e) (tt, refl)
 settled_is bay (said.Between lower upper cause) shown e small = absurd (none-some shown e)
+settled_is bay (said.Outside count) shown e small = absurd (none-some shown e)
 
 pub no_shown : (line : List ℕ) → ¬ IsBayLine line → ¬ IsBoundsLine line → ¬ IsShownLine line
 no_shown line not none (bay, verdict.Optimal count, is, small, e) = not (bay, said.Optimal count, is, small, e)

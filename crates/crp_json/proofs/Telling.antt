@@ -1,119 +1,117 @@
 -- What a sink in front of the standard error has got so far, and what a piece adds.
-use Rattle.std.proofs.Common.{take_all, ◌≡◌, ℕ, suc, ◌+◌, Bool, true, false, ◌==◌, if◌then◌else◌, List, [], ◌∷◌, ◌++◌, length, take, Option, Some, None, refl, sym, ap, ◌∙◌, arith, append_assoc, append-nil}
+use Rattle.std.proofs.Common.{take_all, ◌≡◌, ◌≢◌, ℕ, zero, suc, ◌+◌, Bool, true, false, List, [], ◌∷◌, ◌++◌, length, take, Option, Some, None, refl, sym, ap, ◌∙◌, subst, arith, append_assoc, append-nil}
 use Rattle.std.specs.Prelude.{Result, Ok, Err, flat_map}
 use Rattle.std.specs.Io.KnownBytes.{Appends, WriteAppends}
 use Rattle.std.specs.List.{AllByRecursion}
-use Rattle.std.proofs.lemmas.Bool.{ne_eqb}
+use Rattle.std.proofs.Math.Logic.{∥∥₁_map}
+use Rattle.std.proofs.lemmas.Grind.{flat_map-append}
 use Rattle.crp_plan.specs.declared.device.Failure.{Failure}
 use Rattle.crp_plan.specs.Devices.{CountsWrite}
+use Rattle.crp_cert.proofs.Joined.{all_both}
 use Rattle.crp_said.specs.Spelled.{ended}
-use Rattle.crp_json.specs.Errors.{error_line, objects_behind, line_behind, objects_of, IsLine}
-use Rattle.crp_json.specs.Told.{holds_in, IsTold, IsToldAnswer}
-use Rattle.crp_json.proofs.Showing.{grown, not_none}
+use Rattle.crp_json.specs.Errors.{error_line, IsLine}
+use Rattle.crp_json.specs.Told.{text_of, objects_of, holds_in, GotMore, IsTold, IsTaken, IsLeft, IsToldAnswer}
+use Rattle.crp_json.proofs.Growing.{one_more}
+use Rattle.crp_json.proofs.Showing.{grown, nothing_more, not_none, same_holds}
 
--- ---- bytes behind others
-
-objects_by : (is_end : Bool) (e o p x y k l : List ℕ) (f : List ℕ → List ℕ) → o ≡ x ++ f k → p ≡ y ++ f l
-    → (if is_end then e ++ o else p) ≡ (if is_end then e ++ x else y) ++ f (if is_end then k else l)
-objects_by true e o p x y k l f a b = ap (λ t. e ++ t) a ∙ sym (append_assoc e x (f k))
-objects_by false e o p x y k l f a b = b
-
-pub objects_more : (line xs ys : List ℕ) → objects_behind line (xs ++ ys) ≡ objects_behind line xs ++ objects_behind (line_behind line xs) ys
-objects_more line [] ys = refl
-objects_more line (b ∷ xs) ys =
-    objects_by (b == 10) (error_line line) (objects_behind [] (xs ++ ys)) (objects_behind (line ++ b ∷ []) (xs ++ ys)) (objects_behind [] xs) (objects_behind (line ++ b ∷ []) xs)
-    (line_behind [] xs) (line_behind (line ++ b ∷ []) xs) (λ l. objects_behind l ys) (objects_more [] xs ys) (objects_more (line ++ b ∷ []) xs ys)
-
-line_by : (is_end : Bool) (o p k l : List ℕ) (f : List ℕ → List ℕ) → o ≡ f k → p ≡ f l → (if is_end then o else p) ≡ f (if is_end then k else l)
-line_by true o p k l f a b = a
-line_by false o p k l f a b = b
-
-pub line_more : (line xs ys : List ℕ) → line_behind line (xs ++ ys) ≡ line_behind (line_behind line xs) ys
-line_more line [] ys = refl
-line_more line (b ∷ xs) ys =
-    line_by (b == 10) (line_behind [] (xs ++ ys)) (line_behind (line ++ b ∷ []) (xs ++ ys)) (line_behind [] xs) (line_behind (line ++ b ∷ []) xs) (λ l. line_behind l ys)
-    (line_more [] xs ys) (line_more (line ++ b ∷ []) xs ys)
-
--- ---- bytes without LF, and a line's end behind them
-
-pub plain_objects : (line bytes : List ℕ) → IsLine bytes → objects_behind line bytes ≡ []
-plain_objects line [] plain = refl
-plain_objects line (b ∷ bytes) plain = rw (ne_eqb b 10 plain.0) (plain_objects (line ++ b ∷ []) bytes plain.1)
-
-pub plain_line : (line bytes : List ℕ) → IsLine bytes → line_behind line bytes ≡ line ++ bytes
-plain_line line [] plain = sym (append-nil line)
-plain_line line (b ∷ bytes) plain = rw (ne_eqb b 10 plain.0) (plain_line (line ++ b ∷ []) bytes plain.1 ∙ append_assoc line (b ∷ []) bytes)
-
-pub ended_objects : (line bytes rest : List ℕ) → IsLine bytes → objects_behind line (bytes ++ 10 ∷ rest) ≡ error_line (line ++ bytes) ++ objects_behind [] rest
-ended_objects line bytes rest plain =
-    objects_more line bytes (10 ∷ rest) ∙ ap (λ l. l ++ objects_behind (line_behind line bytes) (10 ∷ rest)) (plain_objects line bytes plain)
-    ∙ ap (λ l. error_line l ++ objects_behind [] rest) (plain_line line bytes plain)
-
-pub ended_line : (line bytes rest : List ℕ) → IsLine bytes → line_behind line (bytes ++ 10 ∷ rest) ≡ line_behind [] rest
-ended_line line bytes rest plain = line_more line bytes (10 ∷ rest)
+-- ---- a piece
 
 -- a piece up to its first LF
 take_line : (bytes rest : List ℕ) → take (suc (length bytes)) (bytes ++ 10 ∷ rest) ≡ bytes ++ 10 ∷ []
 take_line [] rest = refl
 take_line (b ∷ bytes) rest = ap (λ l. b ∷ l) (take_line bytes rest)
 
-pub line_taken : (bytes rest piece : List ℕ) → piece ≡ bytes ++ 10 ∷ rest → take (length bytes + 1) piece ≡ bytes ++ 10 ∷ []
+line_taken : (bytes rest piece : List ℕ) → piece ≡ bytes ++ 10 ∷ rest → take (length bytes + 1) piece ≡ bytes ++ 10 ∷ []
 line_taken bytes rest piece e =
     let n : length bytes + 1 ≡ suc (length bytes) = omega arith in
     ap (λ t. take (length bytes + 1) t) e ∙ ap (λ k. take k (bytes ++ 10 ∷ rest)) n ∙ take_line bytes rest
 
--- a piece without one
-pub whole_line : (line piece now : List ℕ) → IsLine piece → now ≡ line ++ piece → now ≡ line_behind line (take (length piece) piece)
-whole_line line piece now plain e =
-    e ∙ sym (plain_line line piece plain) ∙ ap (λ t. line_behind line t) (sym (take_all (length piece) piece (omega arith)))
+-- the text, where the line under way ends
+text_ended : (lines : List (List ℕ)) (line bytes : List ℕ) → text_of (lines ++ (line ++ bytes) ∷ []) [] ≡ text_of lines line ++ (bytes ++ 10 ∷ [])
+text_ended lines line bytes =
+    append-nil (flat_map ended (lines ++ (line ++ bytes) ∷ [])) ∙ one_more ended lines (line ++ bytes) ∙ ap (λ l. flat_map ended lines ++ l) (append_assoc line bytes (10 ∷ []))
+    ∙ sym (append_assoc (flat_map ended lines) line (bytes ++ 10 ∷ []))
 
-pub no_objects : (line piece : List ℕ) → IsLine piece → objects_behind line (take (length piece) piece) ≡ []
-no_objects line piece plain = ap (λ t. objects_behind line t) (take_all (length piece) piece (omega arith)) ∙ plain_objects line piece plain
+pub taken_ended : (lines new_lines : List (List ℕ)) (line new_line bytes rest piece : List ℕ) (holds new_holds : Option (List ℕ)) → piece ≡ bytes ++ 10 ∷ rest → IsLine bytes
+    → new_lines ≡ lines ++ (line ++ bytes) ∷ [] → new_line ≡ [] → Appends holds new_holds (error_line (line ++ bytes))
+    → IsTaken lines new_lines line new_line holds new_holds (take (length bytes + 1) piece)
+taken_ended lines new_lines line new_line bytes rest piece holds new_holds is plain ended_so empty written = record {
+  more = (line ++ bytes) ∷ [];
+  added = ended_so;
+  text = ap (λ l. text_of new_lines l) empty ∙ ap (λ ls. text_of ls []) ended_so ∙ text_ended lines line bytes ∙ ap (λ l. text_of lines line ++ l) (sym (line_taken bytes rest piece is));
+  plain = λ begun. ((all_both (λ b. b ≢ 10) line bytes begun plain, tt), subst IsLine (sym empty) tt);
+  objects = subst (λ (added : List ℕ). Appends holds new_holds added) (sym (append-nil (error_line (line ++ bytes)))) written;
+}
 
--- nothing is added
-pub nothing_more : (known : Option (List ℕ)) (added : List ℕ) → added ≡ [] → Appends known known added
-nothing_more None added e = tt
-nothing_more (Some xs) added e = sym (ap (λ l. xs ++ l) e ∙ append-nil xs)
+-- a piece without an LF
+pub taken_plain : (lines : List (List ℕ)) (line new_line piece : List ℕ) (holds : Option (List ℕ)) → IsLine piece → new_line ≡ line ++ piece
+    → IsTaken lines lines line new_line holds holds (take (length piece) piece)
+taken_plain lines line new_line piece holds plain grown_so = record {
+  more = [];
+  added = sym (append-nil lines);
+  text = ap (λ l. text_of lines l) grown_so ∙ sym (append_assoc (flat_map ended lines) line piece) ∙ ap (λ l. text_of lines line ++ l) (sym (take_all (length piece) piece (omega arith)));
+  plain = λ begun. (tt, subst IsLine (sym grown_so) (all_both (λ b. b ≢ 10) line piece begun plain));
+  objects = nothing_more holds [] refl;
+}
 
--- the lines in turn
-pub lines_objects : (lines : List (List ℕ)) (held : List ℕ) → AllByRecursion IsLine lines → IsLine held → objects_of (flat_map ended lines ++ held) ≡ flat_map error_line lines
-lines_objects [] held each plain = plain_objects [] held plain
-lines_objects (l ∷ lines) held each plain =
-    ap objects_of (append_assoc (ended l) (flat_map ended lines) held ∙ append_assoc l (10 ∷ []) (flat_map ended lines ++ held))
-    ∙ ended_objects [] l (flat_map ended lines ++ held) each.0 ∙ ap (λ o. error_line l ++ o) (lines_objects lines held each.1 plain)
+-- nothing is written
+pub left_alone : (lines new_lines : List (List ℕ)) (line new_line : List ℕ) (holds : Option (List ℕ)) → new_lines ≡ lines → new_line ≡ line → IsLeft lines new_lines line new_line holds holds
+left_alone lines new_lines line new_line holds a b = record { lines_kept = a; line_kept = b; next = line; plain = λ p. p; front = (0, nothing_more holds [] refl) }
 
 -- ---- the sink
 
 -- it then holds the front too
-pub told_holds : (is_json : Bool) (held holds new_holds : Option (List ℕ)) (failed : ℕ) (r : Result ℕ Failure) (line new_line given new_given piece : List ℕ)
-    → IsToldAnswer is_json failed r line new_line given new_given holds new_holds piece
-    → WriteAppends (holds_in held holds given is_json) (holds_in held new_holds new_given is_json) r piece
-told_holds false held holds new_holds failed r line new_line given new_given piece a = a
-told_holds true None holds new_holds failed (Ok n) line new_line given new_given piece a = tt
-told_holds true (Some before) holds new_holds failed (Ok n) line new_line given new_given piece a =
-    ap (λ l. before ++ l) a.2.kept ∙ sym (append_assoc before given (take n piece))
-told_holds true None holds new_holds failed (Err e) line new_line given new_given piece a = tt
-told_holds true (Some before) holds new_holds failed (Err e) line new_line given new_given piece a = ap (λ l. before ++ l) a
+pub told_holds : (is_json : Bool) (held holds new_holds : Option (List ℕ)) (failed : ℕ) (r : Result ℕ Failure) (lines new_lines : List (List ℕ)) (line new_line piece : List ℕ)
+    → IsToldAnswer is_json failed r lines new_lines line new_line holds new_holds piece
+    → WriteAppends (holds_in held holds lines line is_json) (holds_in held new_holds new_lines new_line is_json) r piece
+told_holds false held holds new_holds failed r lines new_lines line new_line piece a = a.2
+told_holds true None holds new_holds failed (Ok n) lines new_lines line new_line piece a = tt
+told_holds true (Some before) holds new_holds failed (Ok n) lines new_lines line new_line piece a =
+    ap (λ l. before ++ l) a.2.text ∙ sym (append_assoc before (text_of lines line) (take n piece))
+told_holds true None holds new_holds failed (Err e) lines new_lines line new_line piece a = tt
+told_holds true (Some before) holds new_holds failed (Err e) lines new_lines line new_line piece a =
+    ap (λ (ls : List (List ℕ)). before ++ text_of ls new_line) a.0.lines_kept ∙ ap (λ l. before ++ text_of lines l) a.0.line_kept
 
-pub told_on : (is_json : Bool) (held holds new_holds : Option (List ℕ)) (failed new_failed : ℕ) (r : Result ℕ Failure) (line new_line given new_given piece : List ℕ)
-    → IsTold held (record { is_json = is_json; given = given; line = line; holds = holds; failures = failed })
-    → IsToldAnswer is_json failed r line new_line given new_given holds new_holds piece → CountsWrite failed new_failed r piece
-    → IsTold held (record { is_json = is_json; given = new_given; line = new_line; holds = new_holds; failures = new_failed })
-told_on false held holds new_holds failed new_failed r line new_line given new_given piece t a counted = record {
-  line = λ asked none. cc;
-  got = λ before is asked none. cc;
+still_lines : (lines new_lines : List (List ℕ)) (line new_line : List ℕ) → new_lines ≡ lines → new_line ≡ line → ∥ AllByRecursion IsLine lines × IsLine line ∥₁
+    → ∥ AllByRecursion IsLine new_lines × IsLine new_line ∥₁
+still_lines lines new_lines line new_line a b w =
+    subst (λ (ls : List (List ℕ)). ∥ AllByRecursion IsLine ls × IsLine new_line ∥₁) (sym a) (subst (λ (l : List ℕ). ∥ AllByRecursion IsLine lines × IsLine l ∥₁) (sym b) w)
+
+pub told_on : (is_json : Bool) (held holds new_holds : Option (List ℕ)) (failed new_failed : ℕ) (r : Result ℕ Failure) (lines new_lines : List (List ℕ)) (line new_line piece : List ℕ)
+    → IsTold held (record { is_json = is_json; lines = lines; line = line; holds = holds; failures = failed })
+    → IsToldAnswer is_json failed r lines new_lines line new_line holds new_holds piece → CountsWrite failed new_failed r piece
+    → IsTold held (record { is_json = is_json; lines = new_lines; line = new_line; holds = new_holds; failures = new_failed })
+told_on false held holds new_holds failed new_failed r lines new_lines line new_line piece t a counted = record {
+  each = still_lines lines new_lines line new_line a.0 a.1 t.each;
+  objects = λ before is asked none. cc;
+  front = λ before is asked. cc;
 }
-told_on true held holds new_holds failed new_failed (Ok n) line new_line given new_given piece t a counted =
+told_on true held holds new_holds failed new_failed (Ok n) lines new_lines line new_line piece t a counted =
     let k = a.2 in
-    let front = take n piece in
-    let old = t.line refl a.1 in
+    let now : (before : List ℕ) → held ≡ Some before → new_holds ≡ Some (before ++ objects_of new_lines) =
+    λ before is. (grown holds new_holds before (objects_of lines) (objects_of k.more) (t.objects before is refl a.1) k.objects
+    ∙ ap (λ (l : List ℕ). Some (before ++ l)) (sym (flat_map-append error_line lines k.more) ∙ ap objects_of (sym k.added))) in
     record {
-      line = λ asked none. k.goes_on ∙ ap (λ l. line_behind l front) old ∙ sym (line_more [] given front) ∙ ap (λ g. line_behind [] g) (sym k.kept);
-      got = λ before is asked none.
-          (grown holds new_holds before (objects_of given) (objects_behind line front) (t.got before is refl a.1) k.objects
-          ∙ ap (λ (l : List ℕ). Some (before ++ l)) (ap (λ l. objects_of given ++ objects_behind l front) old ∙ sym (objects_more [] given front) ∙ ap objects_of (sym k.kept)));
+      each = ∥∥₁_map t.each (λ (w : AllByRecursion IsLine lines × IsLine line).
+          (subst (λ (ls : List (List ℕ)). AllByRecursion IsLine ls) (sym k.added) (all_both IsLine lines k.more w.0 (k.plain w.1).0), (k.plain w.1).1));
+      objects = λ before is asked none. now before is;
+      front = λ before is asked. ∣ ([], 0, tt, now before is ∙ ap (λ (l : List ℕ). Some (before ++ l)) (sym (append-nil (objects_of new_lines)))) ∣₁;
     }
-told_on true held holds new_holds failed new_failed (Err e) line new_line given new_given piece t a counted = record {
-  line = λ asked none. absurd (not_none failed (sym none ∙ counted));
-  got = λ before is asked none. absurd (not_none failed (sym none ∙ counted));
-}
+told_on true held holds new_holds zero new_failed (Err e) lines new_lines line new_line piece t a counted =
+    let k = a.0 in
+    record {
+      each = still_lines lines new_lines line new_line k.lines_kept k.line_kept t.each;
+      objects = λ before is asked none. absurd (not_none zero (sym none ∙ counted));
+      front = λ before is asked.
+          (subst (λ (ls : List (List ℕ)). ∥ GotMore ls before new_holds ∥₁) (sym k.lines_kept) (∥∥₁_map t.each (λ (w : AllByRecursion IsLine lines × IsLine line).
+          (k.next, k.front.0, k.plain w.1, grown holds new_holds before (objects_of lines) (take k.front.0 (error_line k.next)) (t.objects before is refl refl) k.front.1))));
+    }
+told_on true held holds new_holds (suc failed) new_failed (Err e) lines new_lines line new_line piece t a counted =
+    let k = a.0 in
+    record {
+      each = still_lines lines new_lines line new_line k.lines_kept k.line_kept t.each;
+      objects = λ before is asked none. absurd (not_none (suc failed) (sym none ∙ counted));
+      front = λ before is asked.
+          (subst (λ (ls : List (List ℕ)). ∥ GotMore ls before new_holds ∥₁) (sym k.lines_kept) (∥∥₁_map (t.front before is refl)
+          (λ (w : GotMore lines before holds). (w.0, w.1, w.2, same_holds holds new_holds _ w.3 (a.1 (λ z. omega (arith, z)))))));
+    }

@@ -17,6 +17,7 @@ settled_by (said.Optimal count) = Some (verdict.Optimal count)
 settled_by (said.First count) = Some (verdict.First count)
 settled_by said.NoPlan = Some verdict.NoPlan
 settled_by (said.Between lower upper cause) = None
+settled_by (said.Outside count) = None
 
 -- the relocations of the plan, behind the lower bound
 unfoldable pub behind_tag_at : List ℕ → Option (Option ℕ)

@@ -76,21 +76,6 @@ error_object line = object (line_members line (tag_at (codes "crp: ") line))
 unfoldable pub error_line : List ℕ → List ℕ
 error_line line = ended (print (error_object line))
 
--- ---- the lines
-
 -- a line has no LF before its end
 abbrev pub IsLine : List ℕ → Type 0
 IsLine line = AllByRecursion (λ b. b ≢ 10) line
-
--- where these bytes come behind a line that has begun so: the objects of the lines that end in them, and the line that has begun then
-abbrev pub objects_behind : List ℕ → List ℕ → List ℕ
-objects_behind line [] = []
-objects_behind line (b ∷ bytes) = if b == 10 then error_line line ++ objects_behind [] bytes else objects_behind (line ++ b ∷ []) bytes
-
-abbrev pub line_behind : List ℕ → List ℕ → List ℕ
-line_behind line [] = line
-line_behind line (b ∷ bytes) = if b == 10 then line_behind [] bytes else line_behind (line ++ b ∷ []) bytes
-
--- the objects of the lines that end in these bytes, each on a line of its own
-abbrev pub objects_of : List ℕ → List ℕ
-objects_of = objects_behind []

@@ -6,3 +6,4 @@ pub mod Adding
 pub mod Shown
 pub mod Errors
 pub mod Told
+pub mod Kept

@@ -8,7 +8,7 @@ use Rattle.crp_checker.specs.declared.verdict.Verdict.{Verdict}
 use Rattle.crp_checker.specs.declared.verdict.Verdict.TheVariants as verdict
 use Rattle.crp_said.specs.declared.numbers.Numbers.{Numbers}
 use Rattle.crp_said.specs.declared.said.Said.{Said}
-use Rattle.crp_said.specs.declared.said.Said.TheVariants.{Optimal, First, NoPlan, Between}
+use Rattle.crp_said.specs.declared.said.Said.TheVariants.{Optimal, First, NoPlan, Between, Outside}
 use Rattle.crp_said.specs.declared.moves.Place.{Place}
 use Rattle.crp_said.specs.declared.moves.SaidMove.{SaidMove}
 use Rattle.crp_said.specs.declared.moves.SaidMove.TheVariants.{Shift, Take}
@@ -45,12 +45,13 @@ number_or_null (Some n) = number_token n
 
 -- ---- a bay
 
--- what is known: that the fewest relocations are known, that there is no plan, or that bounds are
+-- what is known: that the fewest relocations are known, that there is no plan, or that bounds are; or that the moves are no plan by the rule
 abbrev pub verdict_words : Said → List ℕ
 verdict_words (Optimal count) = codes "optimal"
 verdict_words (First count) = codes "optimal"
 verdict_words NoPlan = codes "no plan"
 verdict_words (Between lower upper cause) = codes "between"
+verdict_words (Outside count) = codes "outside the rule"
 
 -- the relocations that each plan has at least
 abbrev pub lower_said : Said → Option ℕ
@@ -58,6 +59,7 @@ lower_said (Optimal count) = Some count
 lower_said (First count) = Some count
 lower_said NoPlan = None
 lower_said (Between lower upper cause) = Some lower
+lower_said (Outside count) = None
 
 -- the printed plan is the first of the best
 abbrev pub is_first : Said → Bool
@@ -65,6 +67,7 @@ is_first (Optimal count) = false
 is_first (First count) = true
 is_first NoPlan = false
 is_first (Between lower upper cause) = false
+is_first (Outside count) = false
 
 -- why the bay is left open, or null where it is not
 abbrev pub cause_tokens : Said → List Token
@@ -72,6 +75,7 @@ cause_tokens (Optimal count) = null ∷ []
 cause_tokens (First count) = null ∷ []
 cause_tokens NoPlan = null ∷ []
 cause_tokens (Between lower upper cause) = text_token (cause_words cause)
+cause_tokens (Outside count) = text_token (codes "edited")
 
 -- the name of a bay
 abbrev pub bay_tokens : YardBay → List Token

@@ -90,7 +90,7 @@ fn settled(said: Said) -> Option<Verdict>
         Said::Optimal(count) => Some(Verdict::Optimal(count)),
         Said::First(count) => Some(Verdict::First(count)),
         Said::NoPlan => Some(Verdict::NoPlan),
-        Said::Between { .. } => None,
+        Said::Between { .. } | Said::Outside(_) => None,
     }
 }
 

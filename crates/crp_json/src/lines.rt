@@ -1,12 +1,13 @@
 //! A sink that writes what is printed as JSON Lines.
-ghost use Rattle.std.specs.Prelude.{◌≡◌, ◌++◌, ◌∷◌, [], length, map, option_map, IfOk, OnOk, OnErr};
+ghost use Rattle.std.specs.Prelude.{◌≡◌, ◌++◌, ◌∷◌, [], length, option_map, IfOk, OnOk, OnErr};
 ghost use Rattle.std.specs.Io.{WritesAtMost};
 ghost use Rattle.std.specs.Io.KnownBytes.{Appends};
-ghost use Rattle.crp_plan.specs.Devices.{CountsWrite};
+ghost use Rattle.crp_plan.specs.Devices.{AppendsFront, CountsWrite};
 ghost use Rattle.crp_json.specs.Lines.{json_of};
-ghost use Rattle.crp_json.specs.Shown.{opening, holds_of, GotLines, IsOneMore, IsAnswer};
+ghost use Rattle.crp_json.specs.Shown.{opening, holds_of, IsOneMore, IsNoMore, IsAnswer, IsShown};
 
 use crate::entry::{Entry, Printed};
+use crate::kept::Kept;
 use crate::objects::push_lines;
 use crate::reading::read_entries;
 use crp_plan::{Failure, Sink, WriteFault, write_text};
@@ -26,6 +27,13 @@ impl Begun for Brand {
     ghost held = { None };
 }
 
+// What is printed, and the first line of JSON Lines, where these are asked for.
+#[derive(Drop)]
+struct Asked {
+    printed: Printed,
+    first: Option<Vec<u8>>,
+}
+
 /// A sink in front of another one. What it is given goes on as it is; or, where JSON Lines are asked for, what it is given are the pieces of
 /// what is printed, each with the lines of some entries, and the other sink gets their JSON Lines. A piece that is none is a failure, and each
 /// call behind a failure is one.
@@ -33,25 +41,24 @@ impl Begun for Brand {
 pub struct JsonLines<S: Sink, B: Begun> {
     alloc: Global,
     out: S,
-    printed: Printed,
-    first: Option<Vec<u8>>,
-    pieces: Vec<Vec<Entry>>,
+    asked: Asked,
+    pieces: Kept<Entry>,
     failed: u64,
     begun: PhantomData<B>,
 }
 
 impl<S: Sink, B: Begun> Model for JsonLines<S, B> {
-    ghost use Rattle.std.specs.Prelude.{map, option_map};
+    ghost use Rattle.std.specs.Prelude.{option_map};
     ghost use Rattle.crp_json.specs.Shown.{Shown, IsShown};
 
     ghost Value = { Shown };
 
-    ghost view = { λ d. record { printed = d.printed; first = option_map (λ line. line.items) d.first; pieces = map (λ p. p.items) d.pieces.items; holds = S.contents d.out; failures = d.failed } };
+    ghost view = { λ d. record { printed = d.asked.printed; first = option_map (λ line. line.items) d.asked.first; pieces = d.pieces; holds = S.contents d.out; failures = d.failed } };
 
     ghost invariant = { λ d. IsShown B.held (record {
-      printed = d.printed;
-      first = option_map (λ line. line.items) d.first;
-      pieces = map (λ p. p.items) d.pieces.items;
+      printed = d.asked.printed;
+      first = option_map (λ line. line.items) d.asked.first;
+      pieces = d.pieces;
       holds = S.contents d.out;
       failures = d.failed;
     }) };
@@ -61,10 +68,10 @@ impl<S: Sink, B: Begun> Model for JsonLines<S, B> {
 fn next_lines(
     alloc: Global,
     first: &[u8],
-    pieces: &[Vec<Entry>],
+    pieces: &Kept<Entry>,
     entries: &[Entry],
 ) -> Result<Vec<u8>, AllocError>
-    ensures { IfOk result (λ lines. lines.items ≡ opening first.now (map (λ p. p.items) pieces.now) ++ json_of entries.now) }
+    ensures { IfOk result (λ lines. lines.items ≡ opening first.now pieces.now ++ json_of entries.now) }
 {
     let mut lines = Vec::new(alloc);
     if pieces.is_empty() {
@@ -74,41 +81,36 @@ fn next_lines(
     Ok(lines)
 }
 
-// Adds a piece, and writes its JSON Lines; or adds none.
+// Writes the JSON Lines of entries, and adds them as a piece; or adds none.
 fn add<S: Sink>(
     alloc: Global,
     out: &mut S,
     first: &[u8],
-    pieces: &mut Vec<Vec<Entry>>,
+    pieces: &mut Kept<Entry>,
     entries: Vec<Entry>,
 ) -> Result<(), WriteFault>
-    ensures added { OnOk result ((map (λ p. p.items) pieces.new.items ≡ map (λ p. p.items) pieces.old.items ++ entries.items ∷ [])
-        × Appends (S.contents out.old) (S.contents out.new) (opening first.now (map (λ p. p.items) pieces.old.items) ++ json_of entries.items)) }
-    ensures kept { OnErr result (pieces.new.items ≡ pieces.old.items) }
+    ensures added { OnOk result ((pieces.new ≡ pieces.old ++ entries.items ∷ [])
+        × Appends (S.contents out.old) (S.contents out.new) (opening first.now pieces.old ++ json_of entries.items)) }
+    ensures kept { OnErr result ((pieces.new ≡ pieces.old) × AppendsFront (S.contents out.old) (S.contents out.new) (opening first.now pieces.old ++ json_of entries.items)) }
 {
     let lines = next_lines(alloc, first, pieces, &entries)?;
-    pieces.push(entries).map_err(AllocError::from)?;
-    match write_text(out, &lines) {
-        Ok(()) => Ok(()),
-        Err(fault) => {
-            pieces.pop();
-            Err(WriteFault::from(fault))
-        }
-    }
+    write_text(out, &lines)?;
+    let _entries = pieces.add(entries);
+    Ok(())
 }
 
-// Adds the entries whose lines a piece has, and writes their JSON Lines; or adds none.
+// Writes the JSON Lines of the entries whose lines a piece has, and adds it; or adds none.
 fn show<S: Sink>(
     alloc: Global,
     out: &mut S,
     printed: Printed,
     first: &[u8],
-    pieces: &mut Vec<Vec<Entry>>,
+    pieces: &mut Kept<Entry>,
     piece: &[u8],
 ) -> Result<usize, Failure>
     ensures all { IfOk result (λ n. n ≡ length piece.now) }
-    ensures shown { OnOk result (IsOneMore printed first.now (map (λ p. p.items) pieces.old.items) (map (λ p. p.items) pieces.new.items) (S.contents out.old) (S.contents out.new) piece.now) }
-    ensures kept { OnErr result (pieces.new.items ≡ pieces.old.items) }
+    ensures shown { OnOk result (IsOneMore printed first.now pieces.old pieces.new (S.contents out.old) (S.contents out.new) piece.now) }
+    ensures kept { OnErr result (IsNoMore printed first.now pieces.old pieces.new (S.contents out.old) (S.contents out.new)) }
 {
     let Ok(Some(entries)) = read_entries(alloc, printed, piece) else {
         return Err(Failure::Failed);
@@ -123,23 +125,21 @@ fn show<S: Sink>(
 fn answer_to<S: Sink>(
     alloc: Global,
     out: &mut S,
-    printed: Printed,
-    first: &Option<Vec<u8>>,
-    pieces: &mut Vec<Vec<Entry>>,
+    asked: &Asked,
+    pieces: &mut Kept<Entry>,
     failed: u64,
     piece: &[u8],
 ) -> Result<usize, Failure>
     ensures bound { WritesAtMost result piece.now }
-    ensures answer { IsAnswer printed (option_map (λ line. line.items) first.now) failed result (map (λ p. p.items) pieces.old.items) (map (λ p. p.items) pieces.new.items)
-        (S.contents out.old) (S.contents out.new) piece.now }
+    ensures answer { IsAnswer asked.now.printed (option_map (λ line. line.items) asked.now.first) failed result pieces.old pieces.new (S.contents out.old) (S.contents out.new) piece.now }
 {
-    let Some(first) = first else {
+    let Some(first) = &asked.first else {
         return out.write(piece);
     };
     if failed != 0 {
         return Err(Failure::Failed);
     }
-    show(alloc, out, printed, first, pieces, piece)
+    show(alloc, out, asked.printed, first, pieces, piece)
 }
 
 /// The count of failures with that of an answer to a piece, if it is one.
@@ -162,18 +162,18 @@ impl<S: Sink, B: Begun> JsonLines<S, B> {
         JsonLines {
             alloc,
             out,
-            printed,
-            first,
-            pieces: Vec::new(alloc),
+            asked: Asked { printed, first },
+            pieces: Kept::new(),
             failed: 0,
             begun: PhantomData,
         }
     }
 
-    /// The other sink. Where JSON Lines are asked for, it has got those of the entries, and nothing else, as long as no call has failed.
+    /// The other sink. Where JSON Lines are asked for, it has got those of the entries, and nothing else, as long as no call has failed; and in
+    /// any case a front of those of some more at most behind them.
     pub fn out(&self) -> &S
         ensures holds { S.contents result.now ≡ self.now.holds }
-        ensures lines { GotLines B.held self.now }
+        ensures shown { IsShown B.held self.now }
     {
         &self.out
     }
@@ -188,8 +188,7 @@ impl<S: Sink, B: Begun> Sink for JsonLines<S, B> {
         let answer = answer_to(
             self.alloc,
             &mut self.out,
-            self.printed,
-            &self.first,
+            &self.asked,
             &mut self.pieces,
             self.failed,
             piece,

@@ -20,6 +20,7 @@ fn verdict_of(said: Said) -> &'static str
         Said::Optimal(_) | Said::First(_) => "optimal",
         Said::NoPlan => "no plan",
         Said::Between { .. } => "between",
+        Said::Outside(_) => "outside the rule",
     }
 }
 
@@ -29,7 +30,7 @@ fn lower_of(said: Said) -> Option<u32>
 {
     match said {
         Said::Optimal(count) | Said::First(count) => Some(count),
-        Said::NoPlan => None,
+        Said::NoPlan | Said::Outside(_) => None,
         Said::Between { lower, .. } => Some(lower),
     }
 }
@@ -60,7 +61,8 @@ fn push_cause(out: &mut Writer, said: Said) -> Result<(), AllocError>
     out.key("cause")?;
     match said {
         Said::Between { cause, .. } => out.string(cause_of(cause)),
-        _ => out.null(),
+        Said::Outside(_) => out.string(cause_of(SaidCause::Edited)),
+        Said::Optimal(_) | Said::First(_) | Said::NoPlan => out.null(),
     }
 }
 

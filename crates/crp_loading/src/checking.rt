@@ -1,5 +1,5 @@
 //! Whether the takes of a report fit the ship's order.
-ghost use Rattle.std.specs.Prelude.{◌≡◌, ◌<◌, List, [], map, Some, IfOk, OnOk, IfErr};
+ghost use Rattle.std.specs.Prelude.{◌≡◌, ◌<◌, ◌⊎◌, List, [], map, Some, IfOk, OnOk, IfErr};
 ghost use Rattle.crp_loading.specs.Turns.{turn_of};
 ghost use Rattle.crp_loading.specs.Faults.{TakeStated, faults_behind, faults_in, faults_of, IsFirst};
 ghost use Rattle.crp_loading.specs.Views.{EndWith};
@@ -7,9 +7,12 @@ ghost use Rattle.crp_follow.specs.Views.{bay_followed};
 
 use crate::fault::LoadingFault;
 use crate::ship::Ship;
-use crp_follow::{FollowedBay, StatedMove};
+use crp_follow::{Followed, FollowedBay, StatedMove};
+use crp_movins::Orders;
+use crp_order::Sequence;
 use crp_plan::Container;
 use crp_said::SaidMove;
+use std::alloc::Global;
 
 // The turn of a container that is taken behind others of its bay, the last of which had this turn, or 0.
 fn turn_behind(
@@ -50,8 +53,8 @@ fn check_moves(ship: &Ship, moves: &[StatedMove]) -> Result<(), LoadingFault>
     Ok(())
 }
 
-/// Whether the takes of all bays fit, or the first fault.
-pub(crate) fn check(ship: &Ship, bays: &[FollowedBay]) -> Result<(), LoadingFault>
+// Whether the takes of bays fit, or the first fault.
+fn check_bays(ship: &Ship, bays: &[FollowedBay]) -> Result<(), LoadingFault>
     ensures right { OnOk result (faults_of ship.now.sequence (map bay_followed bays.now) ≡ []) }
     ensures wrong { IfErr result (IsFirst (faults_of ship.now.sequence (map bay_followed bays.now))) }
 {
@@ -59,4 +62,20 @@ pub(crate) fn check(ship: &Ship, bays: &[FollowedBay]) -> Result<(), LoadingFaul
         check_moves(ship, &bay.stated.moves)?;
     }
     Ok(())
+}
+
+/// Whether the takes of a report that is followed load the ship in its order, which gets its containers in this sequence and is to have
+/// them where these orders say; or the first fault. Memory may run out in place of either.
+pub fn check_takes(
+    alloc: Global,
+    followed: &Followed,
+    orders: &Orders,
+    sequence: &Sequence,
+) -> Result<(), LoadingFault>
+    ensures right { OnOk result (faults_of sequence.now (map bay_followed followed.now.bays.items) ≡ []) }
+    ensures wrong { IfErr result (λ fault. (fault ≡ LoadingFault.Memory)
+        ⊎ IsFirst (faults_of sequence.now (map bay_followed followed.now.bays.items)) fault) }
+{
+    let ship = Ship::new(alloc, sequence, orders)?;
+    check_bays(&ship, &followed.bays)
 }

@@ -1,14 +1,11 @@
 //! The table of a followed report in the order in which the ship is loaded.
-ghost use Rattle.std.specs.Prelude.{◌≡◌, ◌⊎◌, [], map, IfOk, OnOk, IfErr};
+ghost use Rattle.std.specs.Prelude.{◌≡◌, map, IfOk};
 ghost use Rattle.std.specs.List.{AllByRecursion};
 ghost use Rattle.crp_follow.specs.Table.{StandFew};
 ghost use Rattle.crp_follow.specs.Views.{bay_followed};
-ghost use Rattle.crp_loading.specs.Faults.{faults_of, IsFirst};
 ghost use Rattle.crp_loading.specs.Loading.{slot_field, load_text};
 ghost use Rattle.crp_loading.specs.Views.{recorded, text_of};
 
-use crate::checking::check;
-use crate::fault::LoadingFault;
 use crate::recording::TurnColumns;
 use crate::ship::Ship;
 use crate::turning::moves_by_turns;
@@ -49,22 +46,17 @@ fn text_of(alloc: Global, records: &[TurnColumns]) -> Result<Vec<u8>, AllocError
 }
 
 /// The table of a followed report in the order in which the ship is loaded, which gets its containers in this sequence and is to have them
-/// where these orders say: exactly where no take has a fault, and else the first fault. Memory may run out in place of either.
+/// where these orders say.
 pub fn load_table(
     alloc: Global,
     followed: &Followed,
     orders: &Orders,
     sequence: &Sequence,
-) -> Result<Vec<u8>, LoadingFault>
+) -> Result<Vec<u8>, AllocError>
     requires { AllByRecursion StandFew (map bay_followed followed.now.bays.items) }
-    ensures table { IfOk result (λ text. text.items ≡ load_text sequence.now orders.now.list (map bay_followed followed.now.bays.items)) }
-    ensures faultless { OnOk result (faults_of sequence.now (map bay_followed followed.now.bays.items) ≡ []) }
-    ensures refused { IfErr result (λ fault. (fault ≡ LoadingFault.Memory)
-        ⊎ IsFirst (faults_of sequence.now (map bay_followed followed.now.bays.items)) fault) }
-    ensures accepts { faults_of sequence.now (map bay_followed followed.now.bays.items) ≡ [] → IfErr result (λ fault. fault ≡ LoadingFault.Memory) }
+    ensures { IfOk result (λ text. text.items ≡ load_text sequence.now orders.now.list (map bay_followed followed.now.bays.items)) }
 {
     let ship = Ship::new(alloc, sequence, orders)?;
-    check(&ship, &followed.bays)?;
     let moves = moves_by_turns(alloc, &ship, &followed.bays)?;
-    Ok(text_of(alloc, &moves)?)
+    text_of(alloc, &moves)
 }

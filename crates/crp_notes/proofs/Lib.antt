@@ -4,4 +4,7 @@ mod InForce
 mod Placed
 mod SizeWords
 mod Leaving
+mod Unlisting
 mod Planned
+mod Counting
+mod Firsts

@@ -16,7 +16,7 @@ use Rattle.crp_notes.specs.Beyond.{size_of, with_size, sizes_of, of_size, last_r
 
 -- ---- lists
 
-next : {X : Type 0} (xs : List X) (i : ℕ) (x : X) → slice_get xs i ≡ Some x → take (i + 1) xs ≡ take i xs ++ x ∷ []
+pub next : {X : Type 0} (xs : List X) (i : ℕ) (x : X) → slice_get xs i ≡ Some x → take (i + 1) xs ≡ take i xs ++ x ∷ []
 next xs i x e = take_more xs i x (slice_get_within xs i x e) ∙ ap (λ y. take i xs ++ y ∷ []) (get_or_from_slice_get xs i x x e)
 
 tallest-push : (heights : List ℕ) (height : ℕ) → tallest (heights ++ height ∷ []) ≡ max (tallest heights) height

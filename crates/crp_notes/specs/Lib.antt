@@ -1,11 +1,17 @@
 pub use Rattle.crp_plan.specs.Devices
 pub mod Wording
+pub mod Repeated
 pub mod Slots
+pub mod Unread
 pub mod Messages
 pub mod Namings
+pub mod Orders
 pub mod Bays
 pub mod Beyond
 pub mod Kept
+pub mod Unlisted
+pub mod Rooms
 pub mod Left
 pub mod LeftNames
+pub mod Outside
 pub use Rattle.crp_report.specs.Watching

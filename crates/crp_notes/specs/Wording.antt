@@ -1,5 +1,5 @@
 -- How notes are worded. A note is one line.
-use Rattle.std.specs.Prelude.{ℕ, nat_lt, ◌==◌, List, [], ◌∷◌, ◌++◌, length, take, flat_map, if◌then◌else◌, Bool, codes, decimal}
+use Rattle.std.specs.Prelude.{ℕ, nat_lt, ◌==◌, List, [], ◌∷◌, ◌++◌, length, take, map, flat_map, if◌then◌else◌, Bool, codes, decimal}
 use Rattle.std.specs.List.{list_all}
 use Rattle.crp_plan.specs.BayNames.{YardBay}
 
@@ -11,10 +11,14 @@ note_of parts = codes "crp: note: " ++ (flat_map (λ part. part) parts ++ 10 ∷
 abbrev pub quoted : List ℕ → List ℕ
 quoted name = 34 ∷ (take 35 name ++ (if nat_lt 35 (length name) then codes "\".." else codes "\""))
 
+-- words with commas between them, and that there are more
+abbrev pub joined : List (List ℕ) → Bool → List ℕ
+joined [] more = []
+joined (first ∷ others) more = first ++ (flat_map (λ other. codes ", " ++ other) others ++ (if more then codes " and others" else []))
+
 -- names in quotes with commas between them, and that there are more
 abbrev pub listed : List (List ℕ) → Bool → List ℕ
-listed [] more = []
-listed (name ∷ names) more = quoted name ++ (flat_map (λ name. codes ", " ++ quoted name) names ++ (if more then codes " and others" else []))
+listed names more = joined (map quoted names) more
 
 -- a message says that it is no original
 abbrev pub function_note : ℕ → List ℕ → List ℕ → List ℕ
@@ -36,19 +40,30 @@ codes_note code found more = note_of (
     codes "no container is ordered under the handling code " ∷ quoted code ∷ codes "; the message has " ∷ listed found more
     ∷ codes ": choose with --code what is loaded, or look for LOC+147 and EQD+CN under it" ∷ [])
 
+-- so many orders stand under another handling code, of the message with this number where there are several
+abbrev pub unread_note : Bool → ℕ → List ℕ → ℕ → List ℕ
+unread_note several message code orders = note_of (
+    (if several then codes "message " ++ (decimal message ++ codes ": ") else []) ∷ decimal orders
+    ∷ (if nat_lt 1 orders then codes " orders under the handling code " else codes " order under the handling code ") ∷ quoted code
+    ∷ (if nat_lt 1 orders then codes " are not read" else codes " is not read") ∷ codes ": choose with --code what is loaded" ∷ [])
+
 -- several messages stand in one interchange, and their containers are mixed
 abbrev pub messages_note : ℕ → List ℕ
 messages_note messages = note_of (
     codes "the interchange has " ∷ decimal messages
     ∷ codes " messages, and --order stowage mixes their containers: put each into a file of its own if they are for different ships" ∷ [])
 
--- a file stops the run, and this bay is the first that is left open for it
-abbrev pub stopped_note : List ℕ
-stopped_note = note_of (codes "the file that --stop names is there, so this bay and those behind it are searched no further" ∷ [])
+-- a slot, and the first two of the containers that are ordered to it
+abbrev pub containers_words : List (List ℕ) → List ℕ
+containers_words [] = []
+containers_words (name ∷ names) = codes " (" ++ (listed (take 2 (name ∷ names)) (nat_lt 2 (length (name ∷ names))) ++ codes ")")
 
--- so many orders name a slot that another order of their message names too, and the first of these slots
+abbrev pub slot_words : List ℕ → List (List ℕ) → List ℕ
+slot_words slot names = quoted slot ++ containers_words names
+
+-- so many orders name a slot that another order names too: the first of these slots, with their containers
 abbrev pub slots_note : ℕ → List (List ℕ) → Bool → List ℕ
-slots_note count slots more = note_of (decimal count ∷ codes " orders name a slot that another order of their message names too: " ∷ listed slots more ∷ [])
+slots_note count slots more = note_of (decimal count ∷ codes " orders name a slot that another order names too: " ∷ joined slots more ∷ [])
 
 -- ordered containers are not in the yard: so many, and the first of them
 abbrev pub absent_note : ℕ → List (List ℕ) → Bool → List ℕ
@@ -90,6 +105,13 @@ beyond_note heights first bays row tier = note_of (
     which_words first bays ∷ codes " planned with " ∷ decimal (length heights) ∷ codes " rows of " ∷ tiers_words heights
     ∷ codes ", and nothing stands beyond row " ∷ decimal row ∷ codes " or tier " ∷ decimal tier ∷ codes ": look at --sizes" ∷ [])
 
+-- so many bays, of which this one is the first, are left out by the list of sizes, and so taken to have rows of these heights
+abbrev pub unlisted_note : List ℕ → YardBay → ℕ → List ℕ
+unlisted_note heights first bays = note_of (
+    which_words first bays ∷ codes " taken to have " ∷ decimal (length heights) ∷ codes " rows of " ∷ tiers_words heights
+    ∷ (if nat_lt 1 bays then codes ", since --sizes does not list them; the bays of their block that are listed all hold more containers, or all hold fewer"
+    else codes ", since --sizes does not list it; the bays of its block that are listed all hold more containers, or all hold fewer") ∷ [])
+
 -- a bay is left open
 abbrev pub open_note : YardBay → List ℕ → List ℕ
 open_note bay advice = note_of (bay_words bay ∷ codes " is left open, since " ∷ advice ∷ [])
@@ -104,7 +126,7 @@ no_plan_note bay = note_of (
 abbrev pub size_note : ℕ → YardBay → List ℕ
 size_note largest bay = note_of (
     codes "with " ∷ bay_words bay ∷ codes " the certificates have more than " ∷ decimal largest
-    ∷ codes " bytes, and crp check takes no larger file: cut it behind a line that begins with end" ∷ [])
+    ∷ codes " bytes, which crp check takes with --any-size alone" ∷ [])
 
 -- a report that is followed does not take these ordered containers of a bay: how many, and the first of them
 abbrev pub left_note : YardBay → List (List ℕ) → List ℕ

@@ -77,8 +77,8 @@ pub(crate) enum Says<'a> {
     Code(&'a [u8]),
     /// A group of orders to this slot of the ship begins.
     Slot(&'a [u8]),
-    /// A container belongs to the group.
-    Container,
+    /// This container belongs to the group.
+    Container(&'a [u8]),
     /// Something else.
     Other,
 }
@@ -122,7 +122,7 @@ fn container_said<'a>(segment: &Segment<'a>) -> Says<'a>
     ensures { IsSaid segment.now result }
 {
     if names_container(segment) {
-        Says::Container
+        Says::Container(segment.component(2, 1))
     } else {
         Says::Other
     }
@@ -176,21 +176,27 @@ pub(crate) fn messages(segments: &Segments, loading: &Loading) -> usize
     messages
 }
 
-/// The first ten handling codes that are not empty, each once, and whether there are more.
-pub(crate) fn handling_codes(
+/// The first ten handling codes of the messages that are read that are not empty, each once, and whether there are more.
+pub(crate) fn handling_codes<'a>(
     alloc: Global,
-    segments: &Segments,
-) -> Result<(Vec<&[u8]>, bool), AllocError> {
+    segments: &'a Segments,
+    loading: &Loading,
+) -> Result<(Vec<&'a [u8]>, bool), AllocError> {
     let mut codes = Vec::new(alloc);
+    let mut is_read = false;
     for i in 0..segments.count() {
-        if let Says::Code(code) = said_by(segments, i + 1) {
-            let is_new = !code.is_empty() && !codes.contains(&code);
-            if is_new && codes.len() == MAX_LISTED {
-                return Ok((codes, true));
+        match said_by(segments, i + 1) {
+            Says::Begins(reference) => is_read = loading.reads(reference),
+            Says::Code(code) => {
+                let is_new = is_read && !code.is_empty() && !codes.contains(&code);
+                if is_new && codes.len() == MAX_LISTED {
+                    return Ok((codes, true));
+                }
+                if is_new {
+                    codes.push(code)?;
+                }
             }
-            if is_new {
-                codes.push(code)?;
-            }
+            _ => {}
         }
     }
     Ok((codes, false))

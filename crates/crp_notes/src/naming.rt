@@ -1,9 +1,10 @@
-//! The slots of the ship that orders name.
+//! The slots of the ship that orders name, and the containers that go there.
 ghost use Rattle.std.specs.Prelude.{◌≡◌, ◌++◌, IfOk, OnOk, map, option_to_list};
 ghost use Rattle.std.specs.Option.{option_map};
 ghost use Rattle.crp_movins.specs.Digits.{seven_digits};
-ghost use Rattle.crp_notes.specs.Slots.{named_slots};
-ghost use Rattle.crp_notes.specs.Namings.{named};
+ghost use Rattle.crp_notes.specs.Slots.{named_slots, placed};
+ghost use Rattle.crp_notes.specs.Messages.{texts};
+ghost use Rattle.crp_notes.specs.Namings.{named, container_placed};
 
 use crate::message::said_by;
 use crate::standing::Standing;
@@ -12,11 +13,17 @@ use edi_text::Segments;
 use std::alloc::{AllocError, Global};
 use std::hash::{Hash, Hasher};
 
-/// A slot that an order names, in seven digits, and the number of its message.
+/// A slot that an order names, in seven digits.
 #[derive(PartialEq, Eq, Hash, Drop)]
 pub(crate) struct Naming {
-    pub message: usize,
     pub slot: Vec<u8>,
+}
+
+/// A container, and the slot to which it is ordered, in seven digits.
+#[derive(Drop)]
+pub(crate) struct Placed<'a> {
+    pub slot: Vec<u8>,
+    pub container: &'a [u8],
 }
 
 // A slot in seven digits.
@@ -31,18 +38,29 @@ fn seven_digits(alloc: Global, text: &[u8]) -> Result<Vec<u8>, AllocError>
     Ok(digits)
 }
 
-// Adds the slot that an order of this message names, if there is one.
-fn push(
-    alloc: Global,
-    namings: &mut Vec<Naming>,
-    message: usize,
-    slot: Option<&[u8]>,
-) -> Result<(), AllocError>
-    ensures { OnOk result (map named namings.new.items ≡ map named namings.old.items ++ option_to_list (option_map (λ slot. (message, seven_digits slot.now)) slot.entry)) }
+// Adds the slot that an order names, if there is one.
+fn push(alloc: Global, namings: &mut Vec<Naming>, slot: Option<&[u8]>) -> Result<(), AllocError>
+    ensures { OnOk result (map named namings.new.items ≡ map named namings.old.items ++ option_to_list (option_map (λ slot. seven_digits slot.now) slot.entry)) }
 {
     if let Some(text) = slot {
         let slot = seven_digits(alloc, text)?;
-        namings.push(Naming { message, slot })?;
+        namings.push(Naming { slot })?;
+    }
+    Ok(())
+}
+
+// Adds the container that is ordered to a slot, if there is one.
+fn push_placed<'a>(
+    alloc: Global,
+    placed: &mut Vec<Placed<'a>>,
+    order: Option<(&[u8], &'a [u8])>,
+) -> Result<(), AllocError>
+    ensures { OnOk result (map container_placed placed.new.items
+        ≡ map container_placed placed.old.items ++ option_to_list (option_map (λ p. texts (seven_digits p.0.now) p.1.now) order.entry)) }
+{
+    if let Some((text, container)) = order {
+        let slot = seven_digits(alloc, text)?;
+        placed.push(Placed { slot, container })?;
     }
     Ok(())
 }
@@ -59,13 +77,26 @@ pub(crate) fn namings(
     let mut standing = Standing::start();
     for i in 0..segments.count() {
         let says = said_by(segments, i + 1);
-        push(
-            alloc,
-            &mut namings,
-            standing.messages,
-            standing.named(&says),
-        )?;
+        push(alloc, &mut namings, standing.named(&says))?;
         standing = standing.after(&says, loading);
     }
     Ok(namings)
+}
+
+/// The containers that the orders that are read place, in their order.
+pub(crate) fn placements<'a>(
+    alloc: Global,
+    segments: &'a Segments,
+    loading: &Loading,
+) -> Result<Vec<Placed<'a>>, AllocError>
+    ensures { IfOk result (λ all. map container_placed all.items ≡ placed segments.now loading.now) }
+{
+    let mut all = Vec::new(alloc);
+    let mut standing = Standing::start();
+    for i in 0..segments.count() {
+        let says = said_by(segments, i + 1);
+        push_placed(alloc, &mut all, standing.placed(&says))?;
+        standing = standing.after(&says, loading);
+    }
+    Ok(all)
 }

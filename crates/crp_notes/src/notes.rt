@@ -1,20 +1,21 @@
 //! The notes of a run.
 ghost use Rattle.crp_report.specs.Watching.{ShowsMore};
 
-use crate::bays::{bay_note, is_out_of_time};
+use crate::bays::bay_note;
 use crate::containers::absent_names;
 use crate::lines::Lines;
 use crate::message::{MAX_LISTED, Says, handling_codes, is_original, messages, said_by, words_of};
-use crate::naming::namings;
 use crate::progress::{Progress, bay_line};
 use crate::sizes::{Size, keep_answer, sizes_before};
-use crate::slots::shared_slots;
+use crate::slots::shared_note;
 use crate::standing::Standing;
 use crate::terminal::Terminal;
 use crate::unknown::{has_bay, has_message};
+use crate::unlisted::unlisted_note_on;
+use crate::unread::unread_notes;
 use crate::wording::{
     absent_note, alike_note, codes_note, function_note, messages_note, no_codes_note, size_note,
-    slots_note, stopped_note, unknown_bay_note, unknown_message_note,
+    unknown_bay_note, unknown_message_note,
 };
 use crp_movins::Loading;
 use crp_order::{BayProblem, Mode, Sequence, alike};
@@ -55,8 +56,6 @@ pub struct Notes<'a, T> {
     // Whether a line for each bay is wanted where there is no terminal.
     bay_lines: bool,
     terminal: &'a T,
-    // Whether it was noted that a file stops the run.
-    is_stopped: bool,
 }
 
 impl<'a, T: Terminal> Notes<'a, T> {
@@ -71,7 +70,6 @@ impl<'a, T: Terminal> Notes<'a, T> {
             progress: Progress::new(alloc, terminal),
             bay_lines,
             terminal,
-            is_stopped: false,
         }
     }
 
@@ -179,7 +177,7 @@ impl<'a, T: Terminal> Notes<'a, T> {
             return;
         }
         let code = loading.code();
-        let Ok((found, more)) = handling_codes(alloc, segments) else {
+        let Ok((found, more)) = handling_codes(alloc, segments, loading) else {
             return;
         };
         let note = if found.is_empty() {
@@ -188,6 +186,24 @@ impl<'a, T: Terminal> Notes<'a, T> {
             codes_note(alloc, code, &found, more)
         };
         self.lines.note(errors, note);
+    }
+
+    // Orders that are not read, since they stand under another handling code.
+    fn unread<E: Sink>(
+        &mut self,
+        alloc: Global,
+        segments: &Segments,
+        loading: &Loading,
+        errors: &mut E,
+    )
+        ensures { ShowsMore (E.contents errors.old) (E.contents errors.new) }
+    {
+        let Ok(notes) = unread_notes(alloc, segments, loading) else {
+            return;
+        };
+        for note in notes {
+            self.lines.note(errors, Ok(note));
+        }
     }
 
     // Several messages whose containers are mixed.
@@ -206,7 +222,7 @@ impl<'a, T: Terminal> Notes<'a, T> {
         }
     }
 
-    // Slots that several orders of one message name.
+    // Slots that several orders name.
     fn slots<E: Sink>(
         &mut self,
         alloc: Global,
@@ -216,19 +232,9 @@ impl<'a, T: Terminal> Notes<'a, T> {
     )
         ensures { ShowsMore (E.contents errors.old) (E.contents errors.new) }
     {
-        let Ok(namings) = namings(alloc, segments, loading) else {
-            return;
-        };
-        let Ok((orders, slots)) = shared_slots(alloc, &namings) else {
-            return;
-        };
-        if slots.is_empty() {
-            return;
+        if let Ok(Some(note)) = shared_note(alloc, segments, loading) {
+            self.lines.note(errors, Ok(note));
         }
-        let first = &slots[..slots.len().min(MAX_LISTED)];
-        let more = slots.len() > MAX_LISTED;
-        self.lines
-            .note(errors, slots_note(alloc, orders, first, more));
     }
 
     // A name that is like that of an absent container.
@@ -266,6 +272,15 @@ impl<'a, T: Terminal> Notes<'a, T> {
         self.alike(alloc, yard, &names, errors);
     }
 
+    // Bays that the list of sizes leaves out.
+    fn unlisted<E: Sink>(&mut self, alloc: Global, yard: &Yard, errors: &mut E)
+        ensures { ShowsMore (E.contents errors.old) (E.contents errors.new) }
+    {
+        if let Ok(Some(note)) = unlisted_note_on(alloc, yard) {
+            self.lines.note(errors, Ok(note));
+        }
+    }
+
     // A bay that is answered, maybe with a plan.
     fn keep(&mut self, alloc: Global, bay: &BayName, answer: &Answer) {
         if keep_answer(alloc, &mut self.sizes, bay, answer).is_err() {
@@ -273,21 +288,11 @@ impl<'a, T: Terminal> Notes<'a, T> {
         }
     }
 
-    // The file that stops the run, where this bay is the first that is left open for it.
-    fn stopped<E: Sink>(&mut self, alloc: Global, answer: &Answer, errors: &mut E)
-        ensures { ShowsMore (E.contents errors.old) (E.contents errors.new) }
-    {
-        if !self.is_stopped && is_out_of_time(answer) && self.terminal.is_stopped() {
-            self.is_stopped = true;
-            self.lines.note(errors, stopped_note(alloc));
-        }
-    }
-
     // A bay that is left open, or has no plan.
     fn bay<E: Sink>(&mut self, alloc: Global, bay: &BayProblem, answer: &Answer, errors: &mut E)
         ensures { ShowsMore (E.contents errors.old) (E.contents errors.new) }
     {
-        if let Ok(Some(note)) = bay_note(alloc, &bay.bay, answer) {
+        if let Ok(Some(note)) = bay_note(alloc, &bay.bay, answer, self.terminal.was_stopped()) {
             self.lines.note(errors, Ok(note));
         }
     }
@@ -327,9 +332,11 @@ impl<'a, T: Terminal + Sync> Watch for Notes<'a, T> {
         self.bays_named(alloc, yard, input.bays(), errors);
         self.functions(alloc, segments, loading, errors);
         self.codes(alloc, segments, sequence, input, errors);
+        self.unread(alloc, segments, loading, errors);
         self.mixed(alloc, segments, input, errors);
         self.slots(alloc, segments, loading, errors);
         self.absent(alloc, yard, sequence, errors);
+        self.unlisted(alloc, yard, errors);
         self.sizes = sizes_before(alloc, yard).unwrap_or(Vec::new(alloc));
     }
 
@@ -362,7 +369,6 @@ impl<'a, T: Terminal + Sync> Watch for Notes<'a, T> {
         bytes: usize,
         errors: &mut E,
     ) {
-        self.stopped(alloc, &solved.answer, errors);
         self.bay(alloc, bay, &solved.answer, errors);
         self.size(alloc, bay, bytes, errors);
         self.keep(alloc, &bay.bay, &solved.answer);

@@ -4,9 +4,10 @@ ghost use Rattle.std.specs.Option.{option_map};
 ghost use Rattle.std.specs.Str.{bytes_eq};
 ghost use Rattle.edi_text.specs.Parts.{SegmentParts};
 ghost use Rattle.crp_movins.specs.Loading.{Loading};
-ghost use Rattle.crp_movins.specs.Places.{segment_numbered, text_at};
+ghost use Rattle.crp_movins.specs.Places.{segment_numbered, text_at, ordered_group};
 ghost use Rattle.crp_notes.specs.Slots.{named_group};
-ghost use Rattle.crp_notes.specs.Messages.{IsSaid, IsStanding};
+ghost use Rattle.crp_notes.specs.Unread.{order_at};
+ghost use Rattle.crp_notes.specs.Messages.{IsSaid, IsStanding, texts};
 
 use crate::message::Says;
 use crp_movins::Loading;
@@ -24,6 +25,12 @@ pub(crate) struct Standing<'a> {
     group: Option<&'a [u8]>,
     /// A container stands in the open slot group.
     has_container: bool,
+    /// The code of the last HAN.
+    code: &'a [u8],
+    /// That code is in force, and the message is read.
+    is_ordering: bool,
+    /// A slot group is open under that code.
+    is_open: bool,
 }
 
 impl<'a> Standing<'a> {
@@ -37,6 +44,9 @@ impl<'a> Standing<'a> {
             is_loading: false,
             group: None,
             has_container: false,
+            code: b"",
+            is_ordering: false,
+            is_open: false,
         }
     }
 
@@ -47,8 +57,35 @@ impl<'a> Standing<'a> {
     {
         match *says {
             Says::Slot(slot) => { if self.is_loading { Some(slot) } else { None } }
-            Says::Container => { if self.has_container { self.group } else { None } }
+            Says::Container(_) => { if self.has_container { self.group } else { None } }
             Says::Begins(_) | Says::Function(_) | Says::Code(_) | Says::Other => None,
+        }
+    }
+
+    /// The slot to which a segment that says this orders a container, and the container.
+    pub fn placed(&self, says: &Says<'a>) -> Option<(&'a [u8], &'a [u8])>
+        ensures { (segments : List SegmentParts) (loading : Loading) (i : ℕ) → IsStanding segments loading i self.now → IsSaid (segment_numbered segments i) says.now
+            → option_map (λ p. texts p.0.now p.1.now) result ≡ option_map (λ j. texts (text_at segments j 2 1) (text_at segments i 2 1)) (ordered_group segments loading i) }
+    {
+        match *says {
+            Says::Container(name) => match self.group {
+                Some(slot) => Some((slot, name)),
+                None => None,
+            },
+            Says::Begins(_) | Says::Function(_) | Says::Code(_) | Says::Slot(_) | Says::Other =>
+                None,
+        }
+    }
+
+    /// The code under which a segment that says this orders a container.
+    pub fn ordered(&self, says: &Says<'a>) -> Option<&'a [u8]>
+        ensures { (segments : List SegmentParts) (loading : Loading) (i : ℕ) → IsStanding segments loading i self.now → IsSaid (segment_numbered segments i) says.now
+            → option_map (λ code. (self.now.messages, code.now)) result ≡ order_at segments loading i }
+    {
+        match *says {
+            Says::Container(_) => { if self.is_open { Some(self.code) } else { None } }
+            Says::Begins(_) | Says::Function(_) | Says::Code(_) | Says::Slot(_) | Says::Other =>
+                None,
         }
     }
 
@@ -72,19 +109,26 @@ impl<'a> Standing<'a> {
                 is_loading: false,
                 group: None,
                 has_container: false,
+                code: self.code,
+                is_ordering: false,
+                is_open: false,
             },
             Says::Code(found) => Standing {
                 is_loading: self.loads(found, loading),
                 group: None,
                 has_container: false,
+                code: found,
+                is_ordering: self.is_read,
+                is_open: false,
                 ..self
             },
             Says::Slot(slot) => Standing {
                 group: if self.is_loading { Some(slot) } else { None },
                 has_container: false,
+                is_open: self.is_ordering,
                 ..self
             },
-            Says::Container => Standing {
+            Says::Container(_) => Standing {
                 has_container: true,
                 ..self
             },

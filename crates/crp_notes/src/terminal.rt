@@ -1,6 +1,7 @@
 //! A terminal on which a run shows how far it is, and who waits there may stop it.
 use crate::meter::Meter;
 use crp_report::Clock;
+use std::sync::atomic::{AtomicBool, Ordering};
 
 /// A terminal, with a clock. Nothing that a run writes elsewhere rests on what is shown there.
 pub trait Terminal: Clock {
@@ -19,15 +20,31 @@ pub trait Terminal: Clock {
     fn has_file(&self, _name: &str) -> bool {
         false
     }
+
+    /// Whether it has said that somebody asked for a stop.
+    fn was_stopped(&self) -> bool {
+        false
+    }
 }
 
 /// A terminal, by whose clock a file of this name stops a run, if one does.
 #[derive(Drop)]
 pub struct Stoppable<'a, T> {
-    /// The terminal.
-    pub terminal: &'a T,
-    /// The name of the file.
-    pub file: Option<&'a str>,
+    terminal: &'a T,
+    file: Option<&'a str>,
+    // Whether the file was found.
+    stopped: AtomicBool,
+}
+
+impl<'a, T> Stoppable<'a, T> {
+    /// The terminal, and the name of the file, if there is one.
+    pub fn new(terminal: &'a T, file: Option<&'a str>) -> Stoppable<'a, T> {
+        Stoppable {
+            terminal,
+            file,
+            stopped: AtomicBool::new(false),
+        }
+    }
 }
 
 impl<T: Terminal> Clock for Stoppable<'_, T> {
@@ -36,10 +53,14 @@ impl<T: Terminal> Clock for Stoppable<'_, T> {
     }
 
     fn is_stopped(&self) -> bool {
-        match self.file {
+        let stopped = match self.file {
             Some(name) => self.terminal.has_file(name),
             None => false,
+        };
+        if stopped {
+            self.stopped.store(true, Ordering::Relaxed);
         }
+        stopped
     }
 }
 
@@ -58,6 +79,10 @@ impl<T: Terminal> Terminal for Stoppable<'_, T> {
 
     fn has_file(&self, name: &str) -> bool {
         self.terminal.has_file(name)
+    }
+
+    fn was_stopped(&self) -> bool {
+        self.stopped.load(Ordering::Relaxed)
     }
 }
 

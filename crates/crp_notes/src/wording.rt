@@ -1,6 +1,6 @@
 //! Words the notes.
-ghost use Rattle.std.specs.Prelude.{◌≡◌, ◌==◌, [], ◌++◌, IfOk, OnOk, length, take, map, flat_map, nat_lt, codes, if◌then◌else◌};
-ghost use Rattle.crp_notes.specs.Wording.{note_of, quoted, listed, function_note, no_codes_note, codes_note, messages_note, absent_note, alike_note, slots_note, stopped_note, unknown_message_note, unknown_bay_note, bay_name, bay_words, which_words, beyond_note, open_note, no_plan_note, size_note, left_note, loaded_note, more_note};
+ghost use Rattle.std.specs.Prelude.{◌≡◌, ◌==◌, [], ◌++◌, IfOk, OnOk, length, take, map, flat_map, nat_lt, codes, decimal, if◌then◌else◌};
+ghost use Rattle.crp_notes.specs.Wording.{note_of, quoted, joined, listed, containers_words, slot_words, function_note, no_codes_note, codes_note, unread_note, messages_note, absent_note, alike_note, slots_note, unknown_message_note, unknown_bay_note, bay_name, bay_words, which_words, beyond_note, unlisted_note, open_note, no_plan_note, size_note, left_note, loaded_note, more_note};
 
 use crate::message::MAX_LISTED;
 use crate::tiers::tiers_words;
@@ -9,7 +9,7 @@ use itoa::Buffer;
 use std::alloc::{AllocError, Global};
 
 /// The line of a note that has these parts.
-fn note_of(alloc: Global, parts: &[&[u8]]) -> Result<Vec<u8>, AllocError>
+pub(crate) fn note_of(alloc: Global, parts: &[&[u8]]) -> Result<Vec<u8>, AllocError>
     ensures { IfOk result (λ text. text.items ≡ note_of (map (λ part. part.now) parts.now)) }
 {
     let mut text = Vec::from_slice(alloc, b"crp: note: ")?;
@@ -51,36 +51,55 @@ fn quoted(alloc: Global, name: &[u8]) -> Result<Vec<u8>, AllocError>
     Ok(text)
 }
 
-// Adds names in quotes, each behind a comma.
-fn push_others(text: &mut Vec<u8>, names: &[&[u8]]) -> Result<(), AllocError>
-    ensures { OnOk result (text.new.items ≡ text.old.items ++ flat_map (λ name. codes ", " ++ quoted name) (map (λ name. name.now) names.now)) }
+// Adds words, each behind a comma.
+fn push_others(text: &mut Vec<u8>, words: &[Vec<u8>]) -> Result<(), AllocError>
+    ensures { OnOk result (text.new.items ≡ text.old.items ++ flat_map (λ other. codes ", " ++ other) (map (λ other. other.items) words.now)) }
 {
-    for name in names {
+    for other in words {
         text.extend_from_slice(b", ")?;
-        push_quoted(text, name)?;
+        text.extend_from_slice(other)?;
     }
     Ok(())
 }
 
-// Behind names, whether there are more.
+// Behind words, whether there are more.
 fn others_words(more: bool) -> &'static [u8]
     ensures { result.now ≡ (if more then codes " and others" else []) }
 {
     if more { b" and others" } else { b"" }
 }
 
+// Words with commas between them, and whether there are more.
+fn joined(alloc: Global, words: &[Vec<u8>], more: bool) -> Result<Vec<u8>, AllocError>
+    ensures { IfOk result (λ text. text.items ≡ joined (map (λ word. word.items) words.now) more) }
+{
+    let mut text = Vec::new(alloc);
+    let [first, others @ ..] = words else {
+        return Ok(text);
+    };
+    text.extend_from_slice(first)?;
+    push_others(&mut text, others)?;
+    text.extend_from_slice(others_words(more))?;
+    Ok(text)
+}
+
 // Names in quotes with commas between them, and whether there are more.
 fn listed(alloc: Global, names: &[&[u8]], more: bool) -> Result<Vec<u8>, AllocError>
     ensures { IfOk result (λ text. text.items ≡ listed (map (λ name. name.now) names.now) more) }
 {
-    let mut text = Vec::new(alloc);
-    let [first, others @ ..] = names else {
-        return Ok(text);
-    };
-    push_quoted(&mut text, first)?;
-    push_others(&mut text, others)?;
-    text.extend_from_slice(others_words(more))?;
-    Ok(text)
+    let mut words = Vec::new(alloc);
+    for name in names {
+        words.push(quoted(alloc, name)?)?;
+    }
+    joined(alloc, &words, more)
+}
+
+// The first names, at most so many, and whether there are more.
+fn first_listed(alloc: Global, names: &[&[u8]], most: usize) -> Result<Vec<u8>, AllocError>
+    ensures { IfOk result (λ text. text.items ≡ listed (take most (map (λ name. name.now) names.now)) (nat_lt most (length names.now))) }
+{
+    let shown = names.len().min(most);
+    listed(alloc, &names[..shown], shown < names.len())
 }
 
 /// A message says by this code of its BGM, in these words, that it is no original.
@@ -139,6 +158,66 @@ pub(crate) fn codes_note(
     note_of(alloc, parts.as_slice())
 }
 
+// Before the number of orders of a message.
+fn message_words(alloc: Global, several: bool, message: usize) -> Result<Vec<u8>, AllocError>
+    ensures { IfOk result (λ text. text.items ≡ (if several then codes "message " ++ (decimal message ++ codes ": ") else [])) }
+{
+    let mut text = Vec::new(alloc);
+    if several {
+        let mut digits = Buffer::new();
+        text.extend_from_slice(b"message ")?;
+        text.extend_from_slice(digits.format(message).as_bytes())?;
+        text.extend_from_slice(b": ")?;
+    }
+    Ok(text)
+}
+
+// Behind the number of orders under another handling code.
+fn orders_words(orders: usize) -> &'static [u8]
+    ensures { result.now ≡ (if nat_lt 1 orders then codes " orders under the handling code " else codes " order under the handling code ") }
+{
+    if 1 < orders {
+        b" orders under the handling code "
+    } else {
+        b" order under the handling code "
+    }
+}
+
+// What they are not.
+fn unread_words(orders: usize) -> &'static [u8]
+    ensures { result.now ≡ (if nat_lt 1 orders then codes " are not read" else codes " is not read") }
+{
+    if 1 < orders {
+        b" are not read"
+    } else {
+        b" is not read"
+    }
+}
+
+/// So many orders stand under another handling code, of the message with this number where there are several.
+pub(crate) fn unread_note(
+    alloc: Global,
+    several: bool,
+    message: usize,
+    code: &[u8],
+    orders: usize,
+) -> Result<Vec<u8>, AllocError>
+    ensures { IfOk result (λ text. text.items ≡ unread_note several message code.now orders) }
+{
+    let mut digits = Buffer::new();
+    let message = message_words(alloc, several, message)?;
+    let code = quoted(alloc, code)?;
+    let parts: [&[u8]; 6] = [
+        &message,
+        digits.format(orders).as_bytes(),
+        orders_words(orders),
+        &code,
+        unread_words(orders),
+        b": choose with --code what is loaded",
+    ];
+    note_of(alloc, parts.as_slice())
+}
+
 /// So many messages stand in one interchange, and their containers are mixed.
 pub(crate) fn messages_note(alloc: Global, messages: usize) -> Result<Vec<u8>, AllocError>
     ensures { IfOk result (λ text. text.items ≡ messages_note messages) }
@@ -152,30 +231,44 @@ pub(crate) fn messages_note(alloc: Global, messages: usize) -> Result<Vec<u8>, A
     note_of(alloc, parts.as_slice())
 }
 
-/// A file stops the run, and this bay is the first that is left open for it.
-pub(crate) fn stopped_note(alloc: Global) -> Result<Vec<u8>, AllocError>
-    ensures { IfOk result (λ text. text.items ≡ stopped_note) }
+// Behind a slot, the first two of the containers that are ordered to it.
+fn containers_words(alloc: Global, names: &[&[u8]]) -> Result<Vec<u8>, AllocError>
+    ensures { IfOk result (λ text. text.items ≡ containers_words (map (λ name. name.now) names.now)) }
 {
-    let parts: [&[u8]; 1] = [
-        b"the file that --stop names is there, so this bay and those behind it are searched no further",
-    ];
-    note_of(alloc, parts.as_slice())
+    if names.is_empty() {
+        return Ok(Vec::new(alloc));
+    }
+    let names = first_listed(alloc, names, 2)?;
+    let mut text = Vec::from_slice(alloc, b" (")?;
+    text.extend_from_slice(&names)?;
+    text.push(b')')?;
+    Ok(text)
 }
 
-/// So many orders name a slot that another order of their message names too, these slots first.
+/// A slot, and the first two of the containers that are ordered to it.
+pub(crate) fn slot_words(alloc: Global, slot: &[u8], names: &[&[u8]]) -> Result<Vec<u8>, AllocError>
+    ensures { IfOk result (λ text. text.items ≡ slot_words slot.now (map (λ name. name.now) names.now)) }
+{
+    let mut text = quoted(alloc, slot)?;
+    let words = containers_words(alloc, names)?;
+    text.extend_from_slice(&words)?;
+    Ok(text)
+}
+
+/// So many orders name a slot that another order names too, these slots first.
 pub(crate) fn slots_note(
     alloc: Global,
     count: usize,
-    slots: &[&[u8]],
+    slots: &[Vec<u8>],
     more: bool,
 ) -> Result<Vec<u8>, AllocError>
-    ensures { IfOk result (λ text. text.items ≡ slots_note count (map (λ slot. slot.now) slots.now) more) }
+    ensures { IfOk result (λ text. text.items ≡ slots_note count (map (λ slot. slot.items) slots.now) more) }
 {
     let mut digits = Buffer::new();
-    let slots = listed(alloc, slots, more)?;
+    let slots = joined(alloc, slots, more)?;
     let parts: [&[u8]; 3] = [
         digits.format(count).as_bytes(),
-        b" orders name a slot that another order of their message names too: ",
+        b" orders name a slot that another order names too: ",
         &slots,
     ];
     note_of(alloc, parts.as_slice())
@@ -238,7 +331,7 @@ fn bay_name(alloc: Global, bay: &BayName) -> Result<Vec<u8>, AllocError>
 }
 
 // The same with the word before it.
-fn bay_words(alloc: Global, bay: &BayName) -> Result<Vec<u8>, AllocError>
+pub(crate) fn bay_words(alloc: Global, bay: &BayName) -> Result<Vec<u8>, AllocError>
     ensures { IfOk result (λ text. text.items ≡ bay_words bay.now) }
 {
     let name = bay_name(alloc, bay)?;
@@ -316,6 +409,41 @@ pub(crate) fn beyond_note(
     note_of(alloc, parts.as_slice())
 }
 
+// What is so of bays that the list of sizes leaves out.
+fn unlisted_words(bays: usize) -> &'static [u8]
+    ensures { result.now ≡ (if nat_lt 1 bays then codes ", since --sizes does not list them; the bays of their block that are listed all hold more containers, or all hold fewer"
+        else codes ", since --sizes does not list it; the bays of its block that are listed all hold more containers, or all hold fewer") }
+{
+    if 1 < bays {
+        b", since --sizes does not list them; the bays of their block that are listed all hold more containers, or all hold fewer"
+    } else {
+        b", since --sizes does not list it; the bays of its block that are listed all hold more containers, or all hold fewer"
+    }
+}
+
+/// So many bays, of which this one is the first, are left out by the list of sizes, and so taken to have rows of these heights.
+pub(crate) fn unlisted_note(
+    alloc: Global,
+    heights: &[u8],
+    first: &BayName,
+    bays: usize,
+) -> Result<Vec<u8>, AllocError>
+    ensures { IfOk result (λ text. text.items ≡ unlisted_note heights.now first.now bays) }
+{
+    let mut all = Buffer::new();
+    let which = which_words(alloc, first, bays)?;
+    let tiers = tiers_words(alloc, heights)?;
+    let parts: [&[u8]; 6] = [
+        &which,
+        b" taken to have ",
+        all.format(heights.len()).as_bytes(),
+        b" rows of ",
+        &tiers,
+        unlisted_words(bays),
+    ];
+    note_of(alloc, parts.as_slice())
+}
+
 /// A bay is left open, for this reason.
 pub(crate) fn open_note(alloc: Global, bay: &BayName, advice: &[u8]) -> Result<Vec<u8>, AllocError>
     ensures { IfOk result (λ text. text.items ≡ open_note bay.now advice.now) }
@@ -348,7 +476,7 @@ pub(crate) fn size_note(alloc: Global, largest: usize, bay: &BayName) -> Result<
         &bay,
         b" the certificates have more than ",
         most.format(largest).as_bytes(),
-        b" bytes, and crp check takes no larger file: cut it behind a line that begins with end",
+        b" bytes, which crp check takes with --any-size alone",
     ];
     note_of(alloc, parts.as_slice())
 }
@@ -364,14 +492,6 @@ fn left_words(count: usize) -> &'static [u8]
     }
 }
 
-// The first ten of the names, and whether there are more.
-fn first_listed(alloc: Global, names: &[&[u8]]) -> Result<Vec<u8>, AllocError>
-    ensures { IfOk result (λ text. text.items ≡ listed (take 10 (map (λ name. name.now) names.now)) (nat_lt 10 (length names.now))) }
-{
-    let most = names.len().min(MAX_LISTED);
-    listed(alloc, &names[..most], most < names.len())
-}
-
 /// A report does not take these ordered containers of a bay.
 pub(crate) fn left_note(
     alloc: Global,
@@ -382,7 +502,7 @@ pub(crate) fn left_note(
 {
     let mut digits = Buffer::new();
     let bay = bay_words(alloc, bay)?;
-    let listed = first_listed(alloc, names)?;
+    let listed = first_listed(alloc, names, MAX_LISTED)?;
     let parts: [&[u8]; 5] = [
         &bay,
         b": the report does not take ",

@@ -7,14 +7,13 @@ use Rattle.std.proofs.lemmas.Option.{slice_get_read}
 use Rattle.crp_sizes.specs.Sizes.{heights_at}
 use Rattle.crp_sizes.proofs.Lists.{member, unmapped}
 use Rattle.crp_yard.specs.Inventory.{Inventory, IsYard}
-use Rattle.crp_said.specs.declared.numbers.Numbers.{Numbers}
 use Rattle.crp_follow.specs.declared.followed.FollowedBay.{FollowedBay}
 use Rattle.crp_follow.specs.Faults.{LeadsIn}
-use Rattle.crp_follow.specs.Followed.{BayFollowed, IsFollowed}
+use Rattle.crp_follow.specs.Followed.{BayFollowed, AreFollowed}
 use Rattle.crp_follow.specs.Crane.{Stack, Leads}
 use Rattle.crp_follow.specs.Table.{StandFew, standing, left_behind, takes_from}
 use Rattle.crp_said.specs.declared.moves.SaidMove.{SaidMove}
-use Rattle.crp_follow.specs.Stated.{moves_of}
+use Rattle.crp_follow.specs.Stated.{BayStated, moves_of}
 use Rattle.crp_follow.specs.Views.{bay_followed}
 use Rattle.crp_follow.proofs.Few.{all_few}
 use Rattle.crp_page.specs.Few.{LeaveFew}
@@ -40,8 +39,8 @@ ends law yard (b ∷ bays) few leads =
     let stand = few.0 in
     (omega (arith, left, stand), ends law yard bays few.1 leads.1)
 
-pub few_at_start : (yard : Inventory) (report : List ℕ) (n : Numbers) (bays : List BayFollowed) → IsYard yard → IsFollowed yard report n bays → AllByRecursion StandFew bays
-few_at_start yard report n bays is followed = all_few yard bays is followed.followed.leads
+pub few_at_start : (yard : Inventory) (stated : List BayStated) (bays : List BayFollowed) → IsYard yard → AreFollowed yard stated bays → AllByRecursion StandFew bays
+few_at_start yard stated bays is followed = all_few yard bays is followed.leads
 
-pub few_at_end : LeftBehind → (yard : Inventory) (report : List ℕ) (n : Numbers) (bays : List BayFollowed) → IsYard yard → IsFollowed yard report n bays → AllByRecursion LeaveFew bays
-few_at_end law yard report n bays is followed = ends law yard bays (few_at_start yard report n bays is followed) followed.followed.leads
+pub few_at_end : LeftBehind → (yard : Inventory) (stated : List BayStated) (bays : List BayFollowed) → IsYard yard → AreFollowed yard stated bays → AllByRecursion LeaveFew bays
+few_at_end law yard stated bays is followed = ends law yard bays (few_at_start yard stated bays is followed) followed.leads

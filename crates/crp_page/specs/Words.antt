@@ -2,7 +2,7 @@
 use Rattle.std.specs.Prelude.{ℕ, ◌==◌, List, [], ◌∷◌, ◌++◌, flat_map, Option, Some, None, codes, decimal, if◌then◌else◌}
 use Rattle.crp_plan.specs.BayNames.{YardBay}
 use Rattle.crp_said.specs.declared.said.Said.{Said}
-use Rattle.crp_said.specs.declared.said.Said.TheVariants.{Optimal, First, NoPlan, Between}
+use Rattle.crp_said.specs.declared.said.Said.TheVariants.{Optimal, First, NoPlan, Between, Outside}
 use Rattle.crp_said.specs.declared.moves.Place.{Place}
 use Rattle.crp_said.specs.declared.moves.SaidMove.{SaidMove}
 use Rattle.crp_said.specs.declared.moves.SaidMove.TheVariants.{Shift, Take}
@@ -64,6 +64,7 @@ kind_of (Optimal count) = codes "vo"
 kind_of (First count) = codes "vo"
 kind_of NoPlan = codes "vn"
 kind_of (Between lower upper why) = codes "vb"
+kind_of (Outside count) = codes "vb"
 
 -- a verdict: the words of the report, and that it is the report that says so
 abbrev pub verdict : Said → List ℕ

@@ -147,7 +147,7 @@ fn kind_of(said: Said) -> &'static [u8]
     match said {
         Said::Optimal(_) | Said::First(_) => b"vo",
         Said::NoPlan => b"vn",
-        Said::Between { .. } => b"vb",
+        Said::Between { .. } | Said::Outside(_) => b"vb",
     }
 }
 

@@ -3,7 +3,8 @@ ghost use Rattle.std.specs.Prelude.{◌≡◌, ◌≤◌, ◌++◌, ℕ, List, l
 ghost use Rattle.std.specs.List.{AllByRecursion};
 ghost use Rattle.std.specs.Io.KnownBytes.{Appends};
 ghost use Rattle.crp_plan.specs.Devices.{AppendsFront, AppendsPart, Transfers, most_interruptions};
-ghost use Rattle.crp_follow.specs.Followed.{IsFollowed};
+ghost use Rattle.crp_follow.specs.Followed.{AreFollowed};
+ghost use Rattle.crp_follow.specs.Stated.{BayStated};
 ghost use Rattle.crp_follow.specs.Table.{StandFew};
 ghost use Rattle.crp_follow.specs.Views.{bay_followed};
 ghost use Rattle.crp_page.specs.Few.{LeaveFew};
@@ -134,7 +135,7 @@ fn write_parts<W: Sink>(
     interruptions: &mut u32,
 ) -> Result<(), WriteFault>
     requires passed { interruptions.old ≤ most_interruptions }
-    requires followed { (report : List ℕ) × IsFollowed yard.now report followed.now.numbers (map bay_followed followed.now.bays.items) }
+    requires followed { (stated : List BayStated) × AreFollowed yard.now stated (map bay_followed followed.now.bays.items) }
     ensures { Wrote result (page_text yard.now numbers ship.now (map bay_followed followed.now.bays.items))
         (sink_now (W.contents sink.old) (W.failures sink.old) (W.interrupted sink.old) interruptions.old)
         (sink_now (W.contents sink.new) (W.failures sink.new) (W.interrupted sink.new) interruptions.new) }
@@ -168,7 +169,7 @@ pub fn write_page<W: Sink>(
     interruptions: &mut u32,
 ) -> Result<(), WriteFault>
     requires passed { interruptions.old ≤ most_interruptions }
-    requires followed { (report : List ℕ) × IsFollowed yard.now report followed.now.numbers (map bay_followed followed.now.bays.items) }
+    requires followed { (stated : List BayStated) × AreFollowed yard.now stated (map bay_followed followed.now.bays.items) }
     ensures all { OnOk result (Appends (W.contents sink.old) (W.contents sink.new) (page_text yard.now numbers ship.now (map bay_followed followed.now.bays.items))) }
     ensures part { IsErrOf result WriteFault.Failed
         → AppendsPart (W.contents sink.old) (W.contents sink.new) (page_text yard.now numbers ship.now (map bay_followed followed.now.bays.items)) }

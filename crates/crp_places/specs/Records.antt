@@ -1,11 +1,12 @@
--- Where the records of a CSV text begin, as csv reads it by its defaults.
+-- Where the records of a CSV text begin, as csv reads it with this byte between fields, and else by its defaults.
 use Prim.Native.Nat.{zero}
 use Rattle.std.specs.Prelude.{◌≡◌, ◌⊎◌, ℕ, suc, ◌-◌, ◌==◌, true, false, List, [], length, Option, Some, None, option_map, if◌then◌else◌}
 use Rattle.csv.specs.Machine.{next_record, step, is_end}
-use Rattle.csv.specs.Reading.{default_config, strip_bom}
+use Rattle.csv.specs.Reading.{strip_bom}
 use Rattle.csv.specs.declared.parser.State.{State}
 use Rattle.csv.specs.declared.parser.State.TheVariants as st
 use Rattle.edi_text.specs.Reading.{after_line_ends}
+use Rattle.crp_separated.specs.Separators.{parted_by}
 use Rattle.crp_places.specs.declared.records.Place.{Place}
 use Rattle.crp_places.specs.declared.records.Place.TheVariants.{FieldStart, Field, Quoted, QuoteEnd}
 
@@ -14,14 +15,14 @@ abbrev pub Behind : Type 0
 Behind = State × List ℕ
 
 -- the machine behind one record more, if there is one
-abbrev pub behind_next : Option Behind → Option Behind
-behind_next None = None
-behind_next (Some at) = option_map (λ read. (read.1, read.2)) (next_record default_config at.0 [] [] at.1)
+abbrev pub behind_next : ℕ → Option Behind → Option Behind
+behind_next separator None = None
+behind_next separator (Some at) = option_map (λ read. (read.1, read.2)) (next_record (parted_by separator) at.0 [] [] at.1)
 
 -- the machine behind so many records of a text, of which a byte order mark is no part; nothing where the text has fewer records
-abbrev pub behind_records : List ℕ → ℕ → Option Behind
-behind_records text zero = Some (st.StartRecord, strip_bom text)
-behind_records text (suc count) = behind_next (behind_records text count)
+abbrev pub behind_records : ℕ → List ℕ → ℕ → Option Behind
+behind_records separator text zero = Some (st.StartRecord, strip_bom text)
+behind_records separator text (suc count) = behind_next separator (behind_records separator text count)
 
 -- the offset at which the last bytes of a text begin, if there are any
 abbrev pub offset_of_last : List ℕ → List ℕ → Option ℕ
@@ -33,8 +34,8 @@ next_start text None = None
 next_start text (Some at) = offset_of_last text (after_line_ends at.1)
 
 -- the offset at which the record with this number begins, from 1: where csv comes to it behind the records before it; none where the text has fewer
-abbrev pub record_start : List ℕ → ℕ → Option ℕ
-record_start text number = if number == 0 then None else next_start text (behind_records text (number - 1))
+abbrev pub record_start : ℕ → List ℕ → ℕ → Option ℕ
+record_start separator text number = if number == 0 then None else next_start text (behind_records separator text (number - 1))
 
 -- ---- what only private clauses speak of
 
@@ -50,14 +51,16 @@ abbrev pub IsBetween : State → Type 0
 IsBetween s = (s ≡ st.StartRecord) ⊎ (s ≡ st.AfterCr)
 
 -- the byte ends the record
-abbrev pub Ends : Place → ℕ → Type 0
-Ends place b = (is_end (step default_config (state_at place) b).1 ≡ true) × IsBetween (step default_config (state_at place) b).0
+abbrev pub Ends : ℕ → Place → ℕ → Type 0
+Ends separator place b =
+    (is_end (step (parted_by separator) (state_at place) b).1 ≡ true) × IsBetween (step (parted_by separator) (state_at place) b).0
 
 -- the byte takes the machine to this place
-abbrev pub GoesOn : Place → ℕ → Place → Type 0
-GoesOn place b behind = (is_end (step default_config (state_at place) b).1 ≡ false) × ((step default_config (state_at place) b).0 ≡ state_at behind)
+abbrev pub GoesOn : ℕ → Place → ℕ → Place → Type 0
+GoesOn separator place b behind =
+    (is_end (step (parted_by separator) (state_at place) b).1 ≡ false) × ((step (parted_by separator) (state_at place) b).0 ≡ state_at behind)
 
 -- behind the record that begins these bytes, the machine has the rest left
-abbrev pub LeavesRecord : List ℕ → List ℕ → Type 0
-LeavesRecord bytes rest =
-    (fields : List (List ℕ)) × (s : State) × IsBetween s × (next_record default_config st.StartField [] [] bytes ≡ Some (fields, s, rest))
+abbrev pub LeavesRecord : ℕ → List ℕ → List ℕ → Type 0
+LeavesRecord separator bytes rest =
+    (fields : List (List ℕ)) × (s : State) × IsBetween s × (next_record (parted_by separator) st.StartField [] [] bytes ≡ Some (fields, s, rest))

@@ -16,29 +16,29 @@ enum Place {
 }
 
 /// Where the machine stands behind this byte; nowhere if the byte ends the record.
-fn place_behind(place: Place, byte: u8) -> Option<Place>
-    ensures { MatchOption result (Ends place byte) (λ behind. GoesOn place byte behind) }
+fn place_behind(separator: u8, place: Place, byte: u8) -> Option<Place>
+    ensures { MatchOption result (Ends separator place byte) (λ behind. GoesOn separator place byte behind) }
 {
     match (place, byte) {
         (Place::Quoted, b'"') => Some(Place::QuoteEnd),
         (Place::Quoted, _) => Some(Place::Quoted),
         (Place::FieldStart | Place::QuoteEnd, b'"') => Some(Place::Quoted),
-        (_, b',') => Some(Place::FieldStart),
+        _ if byte == separator => Some(Place::FieldStart),
         (_, b'\r' | b'\n') => None,
         _ => Some(Place::Field),
     }
 }
 
 /// What stands behind the record at the front.
-fn after_record(text: &[u8]) -> &[u8]
-    ensures left { LeavesRecord text.now result.now }
+fn after_record(separator: u8, text: &[u8]) -> &[u8]
+    ensures left { LeavesRecord separator text.now result.now }
     ensures shorter { length result.now ≤ length text.now }
 {
     let mut place = Place::FieldStart;
     let mut rest = text;
     while let [byte, after @ ..] = rest {
         rest = after;
-        let Some(behind) = place_behind(place, *byte) else {
+        let Some(behind) = place_behind(separator, place, *byte) else {
             return rest;
         };
         place = behind;
@@ -58,10 +58,11 @@ pub fn without_mark(text: &[u8]) -> &[u8]
     }
 }
 
-/// The offset, in bytes from 0, at which the record with this number begins, from 1, as csv reads the text by its defaults without a
-/// header row of its own; none where the text has fewer records. Blank lines are no records, and a byte order mark is part of none.
-pub fn record_at(text: &[u8], number: usize) -> Option<usize>
-    ensures place { result ≡ record_start text.now number }
+/// The offset, in bytes from 0, at which the record with this number begins, from 1, as csv reads the text with this byte between fields,
+/// and else by its defaults without a header row of its own; none where the text has fewer records. Blank lines are no records, and a byte
+/// order mark is part of none.
+pub fn record_at(text: &[u8], separator: u8, number: usize) -> Option<usize>
+    ensures place { result ≡ record_start separator text.now number }
     ensures within { IfSome result (λ offset. offset < length text.now) }
 {
     if number == 0 {
@@ -72,7 +73,7 @@ pub fn record_at(text: &[u8], number: usize) -> Option<usize>
         if rest.is_empty() {
             return None;
         }
-        rest = skip_line_ends(after_record(rest));
+        rest = skip_line_ends(after_record(separator, rest));
     }
     if rest.is_empty() {
         return None;

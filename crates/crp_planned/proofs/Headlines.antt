@@ -16,7 +16,7 @@ use Rattle.crp_order.specs.OfBays.{IsSequenceOf}
 use Rattle.crp_order.specs.BayProblems.{ranked}
 use Rattle.crp_said.specs.declared.moves.SaidMove.{SaidMove}
 use Rattle.crp_said.specs.declared.said.Said.{Said}
-use Rattle.crp_said.specs.declared.said.Said.TheVariants.{Optimal, First, NoPlan, Between}
+use Rattle.crp_said.specs.declared.said.Said.TheVariants.{Optimal, First, NoPlan, Between, Outside}
 use Rattle.crp_said.specs.Said.{count_said, report_text}
 use Rattle.crp_said.specs.Spelled.{most, AreSmall, IsSayable, SpellsReport}
 use Rattle.crp_follow.specs.Crane.{Stack}
@@ -71,6 +71,7 @@ module _ (keep : KeepsHeights) (h : Handed) (b : Reported) (fit : FitBay (height
   said_ends NoPlan e so = none_ends (ap count_said e) so.1
   said_ends (Between lower None why) e so = none_ends (ap count_said e) so.1
   said_ends (Between lower (Some count) why) e so = plan_ends count (ap count_said e) so.1
+  said_ends (Outside count) e so = absurd so
 
 bay_ends : KeepsHeights → (h : Handed) (b : Reported) → FitBay (heights_at h.yard.sizes b.bay.0) b.bay.1 → AreNamed b.bay.1 → IsTrueOf h b → BayEnds h b
 bay_ends keep h b fit names is =

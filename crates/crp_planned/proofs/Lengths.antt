@@ -18,7 +18,7 @@ use Rattle.crp_said.specs.declared.numbers.Numbers.{Numbers}
 use Rattle.crp_said.specs.declared.said.SaidCause.{SaidCause}
 use Rattle.crp_said.specs.declared.said.SaidCause.TheVariants as cause
 use Rattle.crp_said.specs.declared.said.Said.{Said}
-use Rattle.crp_said.specs.declared.said.Said.TheVariants.{Optimal, First, NoPlan, Between}
+use Rattle.crp_said.specs.declared.said.Said.TheVariants.{Optimal, First, NoPlan, Between, Outside}
 use Rattle.crp_said.specs.declared.moves.Place.{Place}
 use Rattle.crp_said.specs.declared.moves.SaidMove.{SaidMove}
 use Rattle.crp_said.specs.declared.moves.SaidMove.TheVariants.{Shift, Take}
@@ -146,6 +146,8 @@ said_long (Between lower upper why) small =
       upper_long upper (omega arith, small.1),
       cause_long why,
     )
+said_long (Outside count) small =
+    omega (arith, length-append (codes "outside the rule ") (decimal count ++ codes ", edited"), length-append (decimal count) (codes ", edited"), few_digits count small)
 
 pub bay_line_long : (bay : YardBay) (said : Said) → IsYardBay bay → IsSmall said → length (bay_line bay said) ≤ 76
 bay_line_long bay said named small =

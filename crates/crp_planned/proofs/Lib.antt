@@ -11,3 +11,4 @@ mod Numbered
 mod Headlines
 mod After
 mod Runs
+mod OfRule

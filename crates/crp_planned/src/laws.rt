@@ -1,7 +1,7 @@
 //! Laws of what is printed of plans, and of reports that are followed over the yard that they were made of.
-ghost use Rattle.std.specs.Prelude.{ℕ, List};
+ghost use Rattle.std.specs.Prelude.{◌≡◌, ℕ, List, None};
 ghost use Rattle.crp_plan.specs.declared.moves.Move.{Move};
-ghost use Rattle.crp_plan.specs.Bay.{Position};
+ghost use Rattle.crp_plan.specs.Bay.{Position, IsSound, IsFinished};
 ghost use Rattle.crp_plan.specs.BayNames.{YardBay};
 ghost use Rattle.crp_movins.specs.Loading.{Loading};
 ghost use Rattle.crp_sizes.specs.Sizes.{YardSizes};
@@ -13,6 +13,9 @@ ghost use Rattle.crp_said.specs.declared.moves.SaidMove.{SaidMove};
 ghost use Rattle.crp_follow.specs.declared.fault.FollowFault.{FollowFault};
 ghost use Rattle.crp_follow.specs.Crane.{Leads};
 ghost use Rattle.crp_follow.specs.Faults.{IsFirstFault};
+ghost use Rattle.crp_follow.specs.Rule.{first_outside};
+ghost use Rattle.crp_follow.specs.Stated.{moves_of};
+ghost use Rattle.crp_follow.specs.declared.stated.StatedMove.{StatedMove};
 ghost use Rattle.crp_report.specs.Chosen.{RunChosen};
 ghost use Rattle.crp_report.specs.Runs.{RunSeen, AreOrders, Made, IsMade};
 ghost use Rattle.crp_audit.specs.Headline.{Handed, IsHeadline};
@@ -28,6 +31,13 @@ use crp_follow::{one_outcome, stays_within_heights, written_is_stated};
 pub fn plans_are_followed()
     ensures { (names : List (List ℕ)) (s t : Position) (moves : List Move) (said : List SaidMove) → AreSaid names s moves said t
         → Leads s.heights (named names s.stacks) said (named names t.stacks) }
+{}
+
+/// The moves of a complete plan by the restricted rule, as a run prints them, are of the rule by their lines alone: so the line of its bay stays as it
+/// is where the report is written anew.
+pub fn plans_are_of_rule()
+    ensures { (names : List (List ℕ)) (s t : Position) (moves : List Move) (stated : List StatedMove) → IsSound s → IsFinished t
+        → AreSaid names s moves (moves_of stated) t → first_outside stated ≡ None }
 {}
 
 /// The report of a run is followed over the run's yard to its end, and no first fault is found in it: for every yard list, message,

@@ -3,4 +3,4 @@
 
 mod laws;
 
-pub use laws::{headlines_are_followed, plans_are_followed, runs_are_followed};
+pub use laws::{headlines_are_followed, plans_are_followed, plans_are_of_rule, runs_are_followed};

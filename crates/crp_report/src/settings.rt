@@ -116,6 +116,27 @@ impl InputSettings {
         self
     }
 
+    /// These settings for all bays, and the bays that they were for. Takes no memory.
+    pub fn for_all(self) -> (InputSettings, Vec<BayName>)
+        ensures settings { result.0 ≡ record self { bays = [] } }
+        ensures bays { result.1.items ≡ self.bays }
+    {
+        let all = Vec::new(*self.bays.allocator());
+        let InputSettings {
+            sizes,
+            mode,
+            loading,
+            bays,
+        } = self;
+        let settings = InputSettings {
+            sizes,
+            mode,
+            loading,
+            bays: all,
+        };
+        (settings, bays)
+    }
+
     /// These settings with bays that have a height for each row. Refused exactly where there are not 1 to 12 heights, or one of
     /// them is not 1 to 8. No memory is taken.
     pub fn with_heights(mut self, heights: &[u8]) -> Result<InputSettings, RunFault>

@@ -10,12 +10,12 @@ use Rattle.std.proofs.lemmas.List.{append-nil}
 use Rattle.crp_said.specs.declared.said.SaidCause.{SaidCause}
 use Rattle.crp_said.specs.declared.said.SaidCause.TheVariants.{Budget, Memory, Time, Edited}
 use Rattle.crp_said.specs.declared.said.Said.{Said}
-use Rattle.crp_said.specs.declared.said.Said.TheVariants.{Optimal, First, NoPlan, Between}
+use Rattle.crp_said.specs.declared.said.Said.TheVariants.{Optimal, First, NoPlan, Between, Outside}
 use Rattle.crp_cert.specs.Reading.{◌>>=◌, tag_at, number_at}
 use Rattle.crp_cert.proofs.Numbers.{bind_some, if_some, chosen, tag_takes}
 use Rattle.crp_said.specs.Said.{cause_words, upper_words, said_words}
 use Rattle.crp_said.specs.Spelled.{most, IsSmall}
-use Rattle.crp_said.specs.Fields.{upper_at, cause_at, said_optimal_at, said_none_at, said_between_at, said_at}
+use Rattle.crp_said.specs.Fields.{upper_at, cause_at, said_optimal_at, said_none_at, said_between_at, said_outside_at, said_at}
 use Rattle.crp_said.proofs.Digits.{number_found, number_reread, number_whole}
 
 -- one of two was read
@@ -104,11 +104,23 @@ between_takes bytes s e =
     ∙ ap (λ l. codes " and " ++ l) (y.1 ∙ ap (λ l. upper_words upper.0.0 ++ l) (tag_takes (codes ", ") upper.0.1 c.0 c.1 ∙ ap (λ l. codes ", " ++ l) (cause_takes c.0 why.0 why.1))))) in
     subst (IsRead bytes) (same_Some made s why.2) (small, text)
 
+outside_takes : (bytes : List ℕ) (s : Said) → said_outside_at bytes ≡ Some s → IsRead bytes s
+unfolding said_outside_at
+outside_takes bytes s e =
+    let a = bind_some (tag_at (codes "outside the rule ") bytes) _ s e in
+    let n = bind_some (number_at most a.0) _ s a.2 in
+    let x = number_found a.0 n.0.0 n.0.1 n.1 in
+    let ends = only n.0.1 (codes ", edited") (Outside n.0.0) s n.2 in
+    subst (IsRead bytes) ends.1
+    (x.1, tag_takes (codes "outside the rule ") bytes a.0 a.1 ∙ ap (λ l. codes "outside the rule " ++ l) (x.0 ∙ ap (λ l. decimal n.0.0 ++ l) ends.0))
+
 pub said_takes : (bytes : List ℕ) (s : Said) → said_at bytes ≡ Some s → IsSmall s × (bytes ≡ said_words s)
 said_takes bytes s e =
     ⊎_elim (optimal_takes bytes s)
-    (λ other. ⊎_elim (none_takes bytes s) (between_takes bytes s) (either_read (said_none_at bytes) (said_between_at bytes) s other))
-    (either_read (said_optimal_at bytes) (option_or (said_none_at bytes) (said_between_at bytes)) s e)
+    (λ other. ⊎_elim (none_takes bytes s)
+    (λ more. ⊎_elim (between_takes bytes s) (outside_takes bytes s) (either_read (said_between_at bytes) (said_outside_at bytes) s more))
+    (either_read (said_none_at bytes) (option_or (said_between_at bytes) (said_outside_at bytes)) s other))
+    (either_read (said_optimal_at bytes) (option_or (said_none_at bytes) (option_or (said_between_at bytes) (said_outside_at bytes))) s e)
 
 -- ---- and it is read again
 
@@ -131,7 +143,7 @@ cause_again Time = refl
 cause_again Edited = refl
 
 pub said_again : (s : Said) → IsSmall s → said_at (said_words s) ≡ Some s
-unfolding said_optimal_at said_between_at
+unfolding said_optimal_at said_between_at said_outside_at
 said_again (Optimal n) low = rw (number_whole n low) refl
 said_again (First n) low = rw (number_reread n 32 (codes "first") low refl) refl
 said_again NoPlan low = refl
@@ -139,3 +151,4 @@ said_again (Between lower upper why) low =
     let third : List ℕ = cause_words why in
     let second : List ℕ = upper_words upper ++ (codes ", " ++ third) in
     rw (number_reread lower 32 (codes "and " ++ second) low.0 refl, upper_again upper (32 ∷ third) low.1, cause_again why) refl
+said_again (Outside n) low = rw (number_reread n 44 (codes " edited") low refl) refl

@@ -12,7 +12,7 @@ use Rattle.crp_said.specs.declared.numbers.Numbers.{Numbers}
 use Rattle.crp_said.specs.declared.said.SaidCause.{SaidCause}
 use Rattle.crp_said.specs.declared.said.SaidCause.TheVariants.{Budget, Memory, Time, Edited}
 use Rattle.crp_said.specs.declared.said.Said.{Said}
-use Rattle.crp_said.specs.declared.said.Said.TheVariants.{Optimal, First, NoPlan, Between}
+use Rattle.crp_said.specs.declared.said.Said.TheVariants.{Optimal, First, NoPlan, Between, Outside}
 use Rattle.crp_said.specs.declared.moves.Place.{Place}
 use Rattle.crp_said.specs.declared.moves.SaidMove.{SaidMove}
 use Rattle.crp_said.specs.declared.moves.SaidMove.TheVariants.{Shift, Take}
@@ -78,6 +78,8 @@ said_printed (Between lower upper why) =
     (both (decimal lower) (codes " and " ++ (upper_words upper ++ (codes ", " ++ cause_words why))) (number lower)
     (both (codes " and ") (upper_words upper ++ (codes ", " ++ cause_words why)) (passed (codes " and ") refl)
     (both (upper_words upper) (codes ", " ++ cause_words why) (upper_printed upper) (both (codes ", ") (cause_words why) (passed (codes ", ") refl) (cause_printed why)))))
+said_printed (Outside count) =
+    both (codes "outside the rule ") (decimal count ++ codes ", edited") (passed (codes "outside the rule ") refl) (both (decimal count) (codes ", edited") (number count) (passed (codes ", edited") refl))
 
 pub bay_printed : (bay : YardBay) (said : Said) → IsYardBay bay → IsPrinted (words_of_bay bay said)
 bay_printed bay said is =

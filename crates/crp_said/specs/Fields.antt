@@ -8,7 +8,7 @@ use Rattle.crp_said.specs.declared.numbers.Numbers.{Numbers}
 use Rattle.crp_said.specs.declared.said.SaidCause.{SaidCause}
 use Rattle.crp_said.specs.declared.said.SaidCause.TheVariants.{Budget, Memory, Time, Edited}
 use Rattle.crp_said.specs.declared.said.Said.{Said}
-use Rattle.crp_said.specs.declared.said.Said.TheVariants.{Optimal, First, NoPlan, Between}
+use Rattle.crp_said.specs.declared.said.Said.TheVariants.{Optimal, First, NoPlan, Between, Outside}
 use Rattle.crp_said.specs.declared.moves.Place.{Place}
 use Rattle.crp_said.specs.declared.moves.SaidMove.{SaidMove}
 use Rattle.crp_said.specs.declared.moves.SaidMove.TheVariants.{Shift, Take}
@@ -44,6 +44,10 @@ last_at line = do
 abbrev pub optimal_at : ℕ → List ℕ → Option Said
 optimal_at count bytes = if bytes_eq bytes [] then Some (Optimal count) else (if bytes_eq bytes (codes " first") then Some (First count) else None)
 
+-- what stands behind the relocations of moves outside the rule
+abbrev pub outside_at : ℕ → List ℕ → Option Said
+outside_at count bytes = if bytes_eq bytes (codes ", edited") then Some (Outside count) else None
+
 -- the relocations of a plan, or that there is none
 abbrev pub upper_at : List ℕ → Option (Option ℕ × List ℕ)
 upper_at bytes = option_or (tag_at (codes "none") bytes >>= λ rest. Some (None, rest)) (number_at most bytes >>= λ x. Some (Some x.0, x.1))
@@ -76,8 +80,14 @@ said_between_at bytes = do
   why ← cause_at c
   Some (Between lower.0 upper.0 why)
 
+unfoldable pub said_outside_at : List ℕ → Option Said
+said_outside_at bytes = do
+  a ← tag_at (codes "outside the rule ") bytes
+  count ← number_at most a
+  outside_at count.0 count.1
+
 abbrev pub said_at : List ℕ → Option Said
-said_at bytes = option_or (said_optimal_at bytes) (option_or (said_none_at bytes) (said_between_at bytes))
+said_at bytes = option_or (said_optimal_at bytes) (option_or (said_none_at bytes) (option_or (said_between_at bytes) (said_outside_at bytes)))
 
 -- the line of a bay: the block and the number, whatever they are, and what is said
 unfoldable pub bay_at : List ℕ → Option ((List ℕ × ℕ) × Said)

@@ -6,7 +6,7 @@ use Rattle.crp_said.specs.declared.numbers.Numbers.{Numbers}
 use Rattle.crp_said.specs.declared.said.SaidCause.{SaidCause}
 use Rattle.crp_said.specs.declared.said.SaidCause.TheVariants.{Budget, Memory, Time, Edited}
 use Rattle.crp_said.specs.declared.said.Said.{Said}
-use Rattle.crp_said.specs.declared.said.Said.TheVariants.{Optimal, First, NoPlan, Between}
+use Rattle.crp_said.specs.declared.said.Said.TheVariants.{Optimal, First, NoPlan, Between, Outside}
 
 -- the first line: the loading orders, the loading groups without a container, and the ordered containers that are not in the yard
 abbrev pub counts_line : Numbers → List ℕ
@@ -34,6 +34,7 @@ said_words (Optimal count) = codes "optimal " ++ decimal count
 said_words (First count) = codes "optimal " ++ (decimal count ++ codes " first")
 said_words NoPlan = codes "no plan"
 said_words (Between lower upper why) = codes "between " ++ (decimal lower ++ (codes " and " ++ (upper_words upper ++ (codes ", " ++ cause_words why))))
+said_words (Outside count) = codes "outside the rule " ++ (decimal count ++ codes ", edited")
 
 -- the words of a bay's line
 abbrev pub words_of_bay : YardBay → Said → List ℕ
@@ -49,13 +50,15 @@ is_settled (Optimal count) = true
 is_settled (First count) = true
 is_settled NoPlan = true
 is_settled (Between lower upper why) = false
+is_settled (Outside count) = false
 
--- the relocations of the plan that is said to be printed, if one is
+-- the relocations of the moves that are said to be printed, if any are
 abbrev pub count_said : Said → Option ℕ
 count_said (Optimal count) = Some count
 count_said (First count) = Some count
 count_said NoPlan = None
 count_said (Between lower upper why) = upper
+count_said (Outside count) = Some count
 
 -- what is said of a bay: its name, its fewest relocations, and the lines of its moves
 pub record BaySaid : Type 0 where

@@ -5,7 +5,7 @@ use Rattle.crp_plan.specs.BayNames.{YardBay, IsYardBay}
 use Rattle.crp_yard.specs.Records.{is_container}
 use Rattle.crp_said.specs.declared.numbers.Numbers.{Numbers}
 use Rattle.crp_said.specs.declared.said.Said.{Said}
-use Rattle.crp_said.specs.declared.said.Said.TheVariants.{Optimal, First, NoPlan, Between}
+use Rattle.crp_said.specs.declared.said.Said.TheVariants.{Optimal, First, NoPlan, Between, Outside}
 use Rattle.crp_said.specs.declared.moves.Place.{Place}
 use Rattle.crp_said.specs.declared.moves.SaidMove.{SaidMove}
 use Rattle.crp_said.specs.declared.moves.SaidMove.TheVariants.{Shift, Take}
@@ -26,6 +26,7 @@ IsSmall (Optimal count) = count ≤ most
 IsSmall (First count) = count ≤ most
 IsSmall NoPlan = Unit {0}
 IsSmall (Between lower upper why) = (lower ≤ most) × IfSome upper (λ count. count ≤ most)
+IsSmall (Outside count) = count ≤ most
 
 -- a place whose numbers can be read
 abbrev pub IsSmallPlace : Place → Type 0

@@ -1,7 +1,7 @@
 //! The fields of a line.
 ghost use Rattle.std.specs.Prelude.{◌≡◌};
 ghost use Rattle.crp_cert.specs.Reading.{Reads};
-ghost use Rattle.crp_said.specs.Fields.{number_alone_at, counts_at, last_at, optimal_at, upper_at, cause_at, said_optimal_at, said_none_at, said_between_at, said_at, bay_at, is_move};
+ghost use Rattle.crp_said.specs.Fields.{number_alone_at, counts_at, last_at, optimal_at, outside_at, upper_at, cause_at, said_optimal_at, said_none_at, said_between_at, said_outside_at, said_at, bay_at, is_move};
 
 use crate::numbers::Numbers;
 use crate::said::{Said, SaidCause};
@@ -61,6 +61,16 @@ fn optimal_of(count: u32, bytes: &[u8]) -> Option<Said>
     }
     if bytes == b" first".as_slice() {
         return Some(Said::First(count));
+    }
+    None
+}
+
+/// What stands behind the relocations of moves outside the rule.
+fn outside_of(count: u32, bytes: &[u8]) -> Option<Said>
+    ensures { Reads (λ x. x) result (outside_at count bytes.now) }
+{
+    if bytes == b", edited".as_slice() {
+        return Some(Said::Outside(count));
     }
     None
 }
@@ -130,6 +140,15 @@ fn said_between(bytes: &[u8]) -> Option<Said>
     })
 }
 
+#[tactic(auto, unfolding(crate::specs::Fields::said_outside_at))]
+fn said_outside(bytes: &[u8]) -> Option<Said>
+    ensures { Reads (λ x. x) result (said_outside_at bytes.now) }
+{
+    let rest = after_tag(b"outside the rule ", bytes)?;
+    let (count, rest) = number(MAX_NUMBER, rest)?;
+    outside_of(count, rest)
+}
+
 /// What a line says of the fewest relocations.
 fn said_of(bytes: &[u8]) -> Option<Said>
     ensures { Reads (λ x. x) result (said_at bytes.now) }
@@ -140,7 +159,10 @@ fn said_of(bytes: &[u8]) -> Option<Said>
     if let Some(said) = said_none(bytes) {
         return Some(said);
     }
-    said_between(bytes)
+    if let Some(said) = said_between(bytes) {
+        return Some(said);
+    }
+    said_outside(bytes)
 }
 
 /// The name of a bay, whatever it is, and what is said of the bay.

@@ -68,6 +68,11 @@ pub fn push_said(text: &mut Vec<u8>, said: Said) -> Result<(), AllocError>
             text.extend_from_slice(b", ")?;
             push_cause(text, cause)
         }
+        Said::Outside(count) => {
+            text.extend_from_slice(b"outside the rule ")?;
+            push_decimal(text, count)?;
+            text.extend_from_slice(b", edited")
+        }
     }
 }
 

@@ -30,6 +30,8 @@ pub enum Said {
         upper: Option<u32>,
         cause: SaidCause,
     },
+    /// That the printed moves, of which so many are relocations, were edited and are no plan by the restricted rule: nothing is said of the fewest.
+    Outside(u32),
 }
 
 impl Said {
@@ -40,15 +42,15 @@ impl Said {
     pub fn is_settled(self) -> bool
         ensures { result ≡ is_settled self }
     {
-        !matches!(self, Said::Between { .. })
+        !matches!(self, Said::Between { .. } | Said::Outside(_))
     }
 
-    /// The relocations of the plan that is said to be printed, if one is.
+    /// The relocations of the moves that are said to be printed, if any are.
     pub fn count(self) -> Option<u32>
         ensures { result ≡ count_said self }
     {
         match self {
-            Said::Optimal(count) | Said::First(count) => Some(count),
+            Said::Optimal(count) | Said::First(count) | Said::Outside(count) => Some(count),
             Said::NoPlan => None,
             Said::Between { upper, .. } => upper,
         }

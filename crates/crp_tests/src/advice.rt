@@ -10,7 +10,7 @@ use crate::compare::{assert_at, assert_same, assert_same_at};
 use crp_audit::AuditFault;
 use crp_checker::{Path, Refused};
 use crp_files::{Role, Shared};
-use crp_follow::FollowFault;
+use crp_follow::{FollowFault, Unstated};
 use crp_jobs::{Statement, ToolFault, advice_on};
 use crp_loading::LoadingFault;
 use crp_movins::MovinsFault;
@@ -73,7 +73,7 @@ fn unseen() -> [(ToolFault, &'static str, &'static str); 15] {
         (
             ToolFault::TooLarge,
             "the input is too large",
-            "a file of certificates may have at most 268435456 bytes",
+            "a file of certificates may have at most 268435456 bytes; crp check takes a larger one with --any-size",
         ),
         (
             ToolFault::TooLargeOf(Statement::Report),
@@ -181,7 +181,7 @@ fn add_certificates(alloc: Global, faults: &mut Vec<ToolFault>) -> Result<(), Al
 }
 
 // The faults of a bay that is audited.
-fn audited(bay: &BayName) -> [AuditFault; 5] {
+fn audited(bay: &BayName) -> [AuditFault; 6] {
     [
         AuditFault::Bay {
             line: 2,
@@ -194,6 +194,7 @@ fn audited(bay: &BayName) -> [AuditFault; 5] {
         },
         AuditFault::Other { bay: bay.copy() },
         AuditFault::Lacking { bay: bay.copy() },
+        AuditFault::Outside { bay: bay.copy() },
     ]
 }
 
@@ -241,6 +242,8 @@ fn add_followed(faults: &mut Vec<ToolFault>) -> Result<(), AllocError> {
     }
     faults.push(ToolFault::Loaded(LoadingFault::OutOfOrder { line: 4 }))?;
     faults.push(ToolFault::Loaded(LoadingFault::NotOrdered { line: 4 }))?;
+    faults.push(ToolFault::Unstated(Unstated::Bay(2)))?;
+    faults.push(ToolFault::Unstated(Unstated::Block(1)))?;
     faults.push(ToolFault::ReadSecond)?;
     faults.push(ToolFault::WriteTable)?;
     faults.push(ToolFault::WritePage).map_err(AllocError::from)
@@ -284,7 +287,7 @@ fn is_short(advice: &str) -> bool {
 #[test]
 fn each_line_is_short_and_of_one_code(rt: HostRuntime) -> Result<(), Fail> {
     let lines = every_advice(rt.alloc())?;
-    assert_same(&rt, &lines.len(), &111);
+    assert_same(&rt, &lines.len(), &114);
     for (i, advice) in lines.iter().enumerate() {
         assert_at(&rt, is_short(advice), advice);
         let is_new = lines[..i].iter().all(|line| line != advice);

@@ -3,7 +3,7 @@ use crate::calls::follow;
 use crate::compare::assert_same_at;
 use crate::devices::{Busy, Endless, Slow, Small};
 use crp_commands::{FollowSettings, Listed, TextFiles};
-use crp_follow::FollowFault;
+use crp_follow::{FollowFault, Part};
 use crp_jobs::{Statement, ToolFault};
 use crp_order::Mode;
 use crp_plan::{Sink, Source};
@@ -53,21 +53,22 @@ fn small(alloc: Global, room: usize) -> Small {
     }
 }
 
-// How a report is followed over a yard of three rows of three tiers, with a message where one is given, and sinks of the page, of the list
-// of the yard behind the moves, where they are asked for, and of the table.
+// How this part of a report is followed over a yard of three rows of three tiers, with a message where one is given, and sinks of the page, of
+// the list of the yard behind the moves, where they are asked for, and of the table.
 fn followed_to<R: Source, P: Sink, W: Sink>(
     alloc: Global,
     listed: (Slow<'_>, Option<Slow<'_>>),
     report: &mut R,
-    asked: (bool, bool),
+    asked: (&Part<'_>, bool, bool),
     files: &mut TextFiles<P, Small>,
     out: &mut W,
 ) -> Result<Result<Status, ToolFault>, Fail> {
     let input = InputSettings::new(alloc, 3, 3, Mode::Listed, b"LOA")?;
     let (yard, message) = listed;
-    let (page, list) = asked;
+    let (part, page, list) = asked;
     let settings = FollowSettings {
         input: &input,
+        part,
         ship: message.is_some(),
         page,
         list,
@@ -97,11 +98,12 @@ fn followed<R: Source + Drop>(
         list: small(alloc, list_room.unwrap_or(ROOM)),
     };
     let mut out = small(alloc, room);
+    let part = Part::new(Vec::new(alloc), Vec::new(alloc));
     let answer = followed_to(
         alloc,
         listed,
         &mut report,
-        (page_room.is_some(), list_room.is_some()),
+        (&part, page_room.is_some(), list_room.is_some()),
         &mut files,
         &mut out,
     )?;
@@ -236,11 +238,12 @@ fn a_page_and_a_table_share_a_thousand_interruptions(rt: HostRuntime) -> Result<
             interrupted: *of_table,
             failed: 0,
         };
+        let part = Part::new(Vec::new(rt.alloc()), Vec::new(rt.alloc()));
         let got = followed_to(
             rt.alloc(),
             (whole(LIST), None),
             &mut whole(REPORT),
-            (true, false),
+            (&part, true, false),
             &mut TextFiles { page, list },
             &mut out,
         )?;

@@ -1,8 +1,9 @@
 -- From what the rows of `follow` lack to why no job comes of them.
-use Rattle.std.proofs.Common.{◌≡◌, ◌∙◌, ℕ, List, Option, Some, None, refl, sym, inl, inr, arith, codes}
+use Rattle.std.proofs.Common.{◌≡◌, ◌∙◌, ℕ, List, [], Option, Some, None, refl, sym, subst, inl, inr, arith, codes}
 use Rattle.clap.specs.Words.{Row, Text}
+use Rattle.crp_plan.specs.BayNames.{YardBay}
 use Rattle.crp_report.specs.Chosen.{InputChosen}
-use Rattle.crp_words.specs.Words.{AreFollowWordsClear, Asks, HasInput, HasSeparator, HasText, IsComparedBeside, IsFault, IsFollowNamedTwice, IsInputFault, IsLoadedAlone, IsOneReport, IsOrderedAlone, IsSizedTwice, IsWordsOrMemory, Lacks, MayHaveNumber, MayNameAfter, NoFault}
+use Rattle.crp_words.specs.Words.{AreFollowWordsClear, Asks, HasInput, HasSeparator, HasText, IsComparedBeside, IsFault, IsFollowNamedTwice, IsInputFault, IsLoadedAlone, IsOneReport, IsOrderedAlone, IsPartOfInput, IsSizedTwice, IsWordsOrMemory, Lacks, MayHaveNumber, MayNameAfter, NoFault}
 use Rattle.crp_jobs.specs.declared.job.AfterFile.{AfterFile}
 use Rattle.crp_jobs.specs.declared.job.Job.{Job}
 use Rattle.crp_jobs.specs.declared.job.FileCommand.TheVariants as command
@@ -29,7 +30,7 @@ follow_asks rows (job.Audit names settings) asks = absurd (other_name 102 97 _ _
 follow_asks rows (job.Follow names settings) asks =
     let files = asks.3 in (
       asks.1,
-      (settings, asks.4),
+      (record settings { bays = names.part.bays }, asks.4.0),
       record {
         yard = (names.yard.now, files.0);
         report = (names.report.now, files.1);
@@ -40,7 +41,7 @@ follow_asks rows (job.Follow names settings) asks =
 follow_asks rows (job.Compare names settings) asks =
     let files = asks.2 in (
       asks.1,
-      (settings, asks.3),
+      (record settings { bays = asks.3.0 }, asks.3.1.0),
       record {
         yard = (names.yard.now, files.0);
         report = (names.report.now, files.1);
@@ -72,6 +73,12 @@ pub no_part : {X : Type 0} (Has : X → Type 0) (rows : List Row) (s : InputChos
 no_part Has rows s u part_in has = lacks_more Has (Asks (codes "follow") rows) NoFault (IsFault (codes "follow") rows) u
     (λ j asks. part_in (follow_asks rows j asks).2) (λ f none. absurd none)
     (λ f first. absurd (no_input_fault rows s has f (follow_fault rows f first).1))
+
+-- an input without its bays, and these
+pub part_of_input : (rows : List Row) (input settings : InputChosen) (bays : List YardBay) → HasInput rows input → settings ≡ record input { bays = [] } → bays ≡ input.bays
+    → IsPartOfInput rows bays settings
+part_of_input rows input settings bays has same is =
+    subst (IsPartOfInput rows bays) (sym same) (subst (λ (b : List YardBay). HasInput rows (record input { bays = b })) (sym is) has, refl)
 
 -- nor without a number for the yard after, where that is wanted
 pub no_after : (rows : List Row) (name : Text) (u : Usage) → HasText (codes "after") rows name → Lacks (MayHaveNumber (codes "loaded") rows) NoFault u

@@ -165,6 +165,10 @@ with_orders shape = with_option (repeated_rule (codes "message"))
 abbrev pub with_bays : Shape → Shape
 with_bays shape = with_option (repeated_rule (codes "bay")) (with_orders shape)
 
+-- a command with [--block B]..
+abbrev pub with_blocks : Shape → Shape
+with_blocks shape = with_option (repeated_rule (codes "block")) shape
+
 -- a command with [--cert FILE] [--after FILE]
 abbrev pub with_files : Shape → Shape
 with_files shape = with_option (optional_rule (codes "after")) (with_option (optional_rule (codes "cert")) shape)
@@ -230,10 +234,10 @@ audit = with_json (with_partial (with_bays (with_size audit_files)))
 abbrev pub follow_files : Shape
 follow_files = command (codes "follow") (file_rule (codes "yard") ∷ file_rule (codes "report") ∷ more_rule (codes "movins") ∷ [])
 
--- follow, with its options: the size of the bays, the order of leaving, the page, the yard after, whether the report may end early, whether the table is that
+-- follow, with its options: the size of the bays, the order of leaving, the blocks, the page, the yard after, whether the report may end early, whether the table is that
 -- of the bays, and a second report
 abbrev pub follow : Shape
-follow = with_compare (with_summary (with_partial (with_after (with_page (with_bays (with_size follow_files))))))
+follow = with_compare (with_summary (with_partial (with_after (with_page (with_blocks (with_bays (with_size follow_files)))))))
 
 -- absent YARD MOVINS, without its options
 abbrev pub absent_files : Shape

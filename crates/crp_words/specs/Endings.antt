@@ -3,10 +3,12 @@ use Rattle.std.specs.Prelude.{◌≡◌, ℕ, ◌⊎◌, List, [], ◌∷◌, �
 use Rattle.crp_plan.specs.Devices.{HasFailed}
 use Rattle.crp_report.specs.declared.status.Status.{Status}
 use Rattle.crp_report.specs.Runs.{SinkSeen, Gets, GetsPart}
+use Rattle.crp_files.specs.Known.{KnownFiles}
 use Rattle.crp_jobs.specs.declared.job.Job.{Job}
 use Rattle.crp_jobs.specs.declared.outcome.ToolFault.{ToolFault}
 use Rattle.crp_jobs.specs.Advice.{IsPlainLine, failed_words}
 use Rattle.crp_jobs.specs.Found.{IsPlainText}
+use Rattle.crp_jobs.specs.FaultLines.{IsPlacedLine}
 use Rattle.crp_jobs.specs.Outcomes.{exit_code}
 use Rattle.crp_jobs.specs.Opened.{AreFilesLeftAlone, IsSourceLeftAlone, IsLeftAlone}
 use Rattle.crp_commands.specs.Performing.{JobSeen}
@@ -33,18 +35,19 @@ fault_lines text place advice = codes "crp: " ++ (text ++ (10 ∷ (place_part pl
 abbrev pub IsExplained : Option (List ℕ) → SinkSeen → Type 0
 IsExplained place s = (text : List ℕ) × (advice : List ℕ) × IsPlainLine advice × GetsLines s (fault_lines text place advice)
 
--- the same two lines, and what the file looks like that was refused
+-- the same two lines, and a third one, on what was found
 abbrev pub three_lines : List ℕ → List ℕ → List ℕ → List ℕ
 three_lines text advice found = codes "crp: " ++ (text ++ (10 ∷ (advice ++ (10 ∷ (found ++ 10 ∷ [])))))
 
--- the sink got the two lines of some fault and of some line of advice, and a line on what was found
-abbrev pub IsExplainedWithFound : SinkSeen → Type 0
-IsExplainedWithFound s = (text : List ℕ) × (advice : List ℕ) × (found : List ℕ) × IsPlainLine advice × IsPlainText found × GetsLines s (three_lines text advice found)
+-- the sink got the two lines of some fault and of some line of advice, and this line
+abbrev pub IsExplainedWith : List ℕ → SinkSeen → Type 0
+IsExplainedWith found s = (text : List ℕ) × (advice : List ℕ) × IsPlainLine advice × GetsLines s (three_lines text advice found)
 
 -- the sink got the two lines of a fault of the job, with the place where a read or a write has failed, or the names of one file; or, where there is no such
--- place, a third one on what was found
-abbrev pub IsExplainedOf : Job → ToolFault → SinkSeen → Type 0
-IsExplainedOf j f s = IsExplained (failed_words j f) s ⊎ ((failed_words j f ≡ None) × IsExplainedWithFound s)
+-- place, a third one, which says where in a file of the job the fault stands and what stands there, or what the file looks like, as the files are now
+abbrev pub IsExplainedOf : KnownFiles → Job → ToolFault → SinkSeen → Type 0
+IsExplainedOf known j f s = IsExplained (failed_words j f) s
+    ⊎ ((failed_words j f ≡ None) × (found : List ℕ) × IsPlainText found × IsPlacedLine known j f found × IsExplainedWith found s)
 
 -- ---- words that ask for nothing
 
@@ -75,7 +78,7 @@ pub record BehindNotes (j : Job) (Then : SinkSeen → Type 0) (s : SinkSeen) : T
 abbrev pub JobEnds : Job → JobSeen → SinkSeen → ℕ → Type 0
 JobEnds j seen errors status =
     ((ended : Status) × IsDone j seen ended × IsNoted j errors × (status ≡ exit_code (Ok ended)))
-    ⊎ ((f : ToolFault) × IsFailed j seen f × BehindNotes j (IsExplainedOf j f) errors × (status ≡ exit_code (Err f)))
+    ⊎ ((f : ToolFault) × IsFailed j seen f × BehindNotes j (IsExplainedOf seen.files.left j f) errors × (status ≡ exit_code (Err f)))
 
 -- ---- the program
 

@@ -332,7 +332,7 @@ abbrev pub HasFollowFiles : List Row → FollowFiles → Type 0
 HasFollowFiles found names = HasText (codes "yard") found names.yard.now × HasText (codes "report") found names.report.now
     × (first_of (codes "movins") found ≡ option_map (λ text. text.now) names.movins)
     × (first_of (codes "page") found ≡ option_map (λ text. text.now) names.page) × MayNameSizes found names.sizes × MayNameAfter found names.after
-    × MayEndEarly found names.partial × IsOfBays found names.summary × HasSeparator found names.separator
+    × MayEndEarly found names.partial × IsOfBays found names.summary × HasSeparator found names.separator × (names.part.blocks ≡ given_texts (codes "block") found)
 
 -- the files of two reports that were found, and the list of sizes, if there is one; whether the reports may end early; and the byte between the fields of lists
 abbrev pub HasCompareFiles : List Row → CompareFiles → Type 0
@@ -372,7 +372,7 @@ IsFollowNamedTwice found = IsOneFile (codes "page") (codes "yard") found
 -- what is read of a message, or made of it, is given, and no message that it is about
 abbrev pub IsOrderedAlone : List Row → Type 0
 IsOrderedAlone found = (first_of (codes "movins") found ≡ None) × (IsGivenByWords (codes "order") found ⊎ (IsGivenByWords (codes "code") found
-    ⊎ (IsGivenByWords (codes "message") found ⊎ IsGivenByWords (codes "bay") found)))
+    ⊎ IsGivenByWords (codes "message") found))
 
 -- the containers that the ship has are counted, and the yard after is not wanted, or no message says which they are
 abbrev pub IsLoadedAlone : List Row → Type 0
@@ -382,10 +382,15 @@ IsLoadedAlone found = IsGivenByWords (codes "loaded") found × ((first_of (codes
 abbrev pub AreBothInput : List Row → Type 0
 AreBothInput found = HasText (codes "report") found (codes "-") × HasText (codes "compare") found (codes "-")
 
--- a second report is given beside what is made of one: a message's order, the summary, the page or the yard after; or both are the standard input
+-- what is said of one report is given: a message, a part of it, or the summary
+abbrev pub IsOfOneReport : List Row → Type 0
+IsOfOneReport found = IsGivenByWords (codes "movins") found ⊎ (IsGivenByWords (codes "bay") found
+    ⊎ (IsGivenByWords (codes "block") found ⊎ IsGivenByWords (codes "summary") found))
+
+-- a second report is given beside what is made of one: its order, a part of it, the summary, the page or the yard after; or both are the standard input
 abbrev pub IsComparedBeside : List Row → Type 0
-IsComparedBeside found = IsGivenByWords (codes "compare") found × (IsGivenByWords (codes "movins") found ⊎ (IsGivenByWords (codes "summary") found
-    ⊎ (IsGivenByWords (codes "page") found ⊎ (IsGivenByWords (codes "after") found ⊎ AreBothInput found))))
+IsComparedBeside found = IsGivenByWords (codes "compare") found × (IsOfOneReport found ⊎ (IsGivenByWords (codes "page") found
+    ⊎ (IsGivenByWords (codes "after") found ⊎ AreBothInput found)))
 
 -- notes are left out exactly where the words give the flag
 abbrev pub MayBeQuiet : List Row → Bool → Type 0
@@ -418,6 +423,10 @@ AsksCommand name found (command.Check any_size workers json) = (name ≡ codes "
 AsksCommand name found (command.Prove search) = (name ≡ codes "prove") × HasSearch found search
 AsksCommand name found command.Rewrite = name ≡ codes "rewrite"
 
+-- the input that was found, for all bays; the bays that it was for are these
+abbrev pub IsPartOfInput : List Row → List YardBay → InputChosen → Type 0
+IsPartOfInput found bays s = HasInput found (record s { bays = bays }) × (s.bays ≡ [])
+
 -- the command and its rows ask for this
 abbrev pub Asks : Text → List Row → Job → Type 0
 Asks name found (job.OneFile file c stop) = AsksCommand name found c × HasText (codes "file") found file.now × MayNameStop found stop
@@ -426,8 +435,9 @@ Asks name found (job.Absent names settings) =
 Asks name found (job.Audit names settings) =
     (name ≡ codes "audit") × ¬ IsSizedTwice found × HasAuditFiles found names × HasInput found settings
 Asks name found (job.Follow names settings) =
-    (name ≡ codes "follow") × AreFollowWordsClear found × IsOneReport found × HasFollowFiles found names × HasInput found settings
-Asks name found (job.Compare names settings) = (name ≡ codes "follow") × AreFollowWordsClear found × HasCompareFiles found names × HasInput found settings
+    (name ≡ codes "follow") × AreFollowWordsClear found × IsOneReport found × HasFollowFiles found names × IsPartOfInput found names.part.bays settings
+Asks name found (job.Compare names settings) =
+    (name ≡ codes "follow") × AreFollowWordsClear found × HasCompareFiles found names × ((bays : List YardBay) × IsPartOfInput found bays settings)
 Asks name found (job.Solve names settings quiet progress) =
     (name ≡ codes "solve") × ¬ IsSizedTwice found × ¬ IsNamedTwice found × HasFiles found names × HasSettings found settings × MayBeQuiet found quiet × MayShowProgress found progress
 

@@ -1,5 +1,5 @@
-//! The bays that a run is for and the messages that are read, by the words.
-ghost use Rattle.std.specs.Prelude.{◌≡◌, ℕ, List, IfOk, IfErr, IfSome, IfNone, codes};
+//! The bays that a run is for, the blocks and the messages that are read, by the words.
+ghost use Rattle.std.specs.Prelude.{◌≡◌, ℕ, List, IfOk, IfErr, IfSome, IfNone, codes, map};
 ghost use Rattle.crp_plan.specs.BayNames.{YardBay, IsYardBay};
 ghost use Rattle.clap.specs.Words.{found_of, rows_of};
 ghost use Rattle.crp_cert.specs.Reading.{Reads};
@@ -64,6 +64,20 @@ pub(crate) fn bays_of(alloc: Global, matches: &ArgMatches<'_>) -> Result<Vec<Bay
         }
     }
     Ok(bays)
+}
+
+/// The blocks that are named; none where none is.
+pub(crate) fn blocks_of<'a>(alloc: Global, matches: &ArgMatches<'a>) -> Result<Vec<&'a str>, Usage>
+    ensures ok { IfOk result (λ blocks. map (λ block. block.now) blocks.items ≡ given_texts (codes "block") (rows_of (found_of matches.now))) }
+    ensures err { IfErr result (λ fault. fault ≡ usage.Memory) }
+{
+    let Some(texts) = matches.get_strs("block") else {
+        return Ok(Vec::new(alloc));
+    };
+    match Vec::from_slice(alloc, texts) {
+        Ok(blocks) => Ok(blocks),
+        Err(_) => Err(Usage::Memory),
+    }
 }
 
 /// The references of the messages that are read; none where all are.

@@ -4,8 +4,8 @@ ghost use Rattle.clap.specs.Words.{App, app_of, with_subcommand};
 ghost use Rattle.crp_words.specs.Commands.{IsArg, IsCommand, absent as absent_shape, absent_files as absent_files_shape, alone, audit as audit_shape, audit_files as audit_files_shape, bound as bound_shape, check as check_shape, crp, file_rule, flag_rule, follow as follow_shape, follow_files as follow_files_shape, leaf as leaf_shape, leaves, more_rule, prove as prove_shape, rewrite as rewrite_shape, solve as solve_shape, solve_files as solve_files_shape, top_command as top_shape, with_option};
 
 use crate::options::{
-    flag, with_after, with_bays, with_compare, with_json, with_orders, with_outputs, with_page,
-    with_partial, with_search, with_searches, with_size, with_summary, workers,
+    flag, with_after, with_bays, with_blocks, with_compare, with_json, with_orders, with_outputs,
+    with_page, with_partial, with_search, with_searches, with_size, with_summary, workers,
 };
 use clap::{Arg, Command};
 use std::alloc::{AllocError, Global};
@@ -172,7 +172,8 @@ fn follow<'a>(alloc: Global) -> Result<Command<'a>, AllocError>
 {
     let sized = with_size(alloc, follow_files(alloc)?)?;
     let ordered = with_bays(alloc, sized)?;
-    let paged = with_page(alloc, ordered)?;
+    let parted = with_blocks(alloc, ordered)?;
+    let paged = with_page(alloc, parted)?;
     let left = with_after(alloc, paged)?;
     let early = with_partial(alloc, left)?;
     let summed = with_summary(alloc, early)?;

@@ -26,7 +26,7 @@ fn explain_of<F: Files, E: Sink>(
     fault: &ToolFault,
 )
     ensures { let seen : SinkSeen = sink_seen E.contents E.failures errors.old errors.new
-        in IsExplainedOf job.now fault.now seen }
+        in IsExplainedOf (F.known files.now) job.now fault.now seen }
 {
     let Some(place) = place_of(job, fault) else {
         let Some(line) = found_line(alloc, files, job, fault) else {
@@ -46,7 +46,7 @@ fn explain_answer<F: Files, E: Sink>(
     answer: &Result<Status, ToolFault>,
 )
     ensures { let seen : SinkSeen = sink_seen E.contents E.failures errors.old errors.new
-        in MatchResult answer.now (λ _. IsLeftAlone seen) (λ fault. IsExplainedOf job.now fault seen) }
+        in MatchResult answer.now (λ _. IsLeftAlone seen) (λ fault. IsExplainedOf (F.known files.now) job.now fault seen) }
 {
     match answer {
         Ok(_) => {}

@@ -3,8 +3,7 @@ ghost use Rattle.std.specs.Prelude.{Some, flat_map, option_map};
 ghost use Rattle.crp_report.specs.Runs.{SinkSeen, sink_seen};
 ghost use Rattle.crp_jobs.specs.Advice.{place_words};
 ghost use Rattle.crp_commands.specs.Noted.{GetsLines};
-ghost use Rattle.crp_jobs.specs.Found.{IsPlainText};
-ghost use Rattle.crp_words.specs.Endings.{HelpEnds, IsExplained, IsExplainedWithFound, UsageEnds, fault_lines, three_lines};
+ghost use Rattle.crp_words.specs.Endings.{HelpEnds, IsExplained, IsExplainedWith, UsageEnds, fault_lines, three_lines};
 
 use crate::advice::advice_on_setting;
 use crate::usage::{Mistake, Usage};
@@ -158,9 +157,8 @@ fn explain_with<W: Sink>(sink: &mut W, text: &[u8], advice: &str, found: &[u8])
 
 /// Writes the lines of a fault for which no read or write is the cause: what it is, what to look at, and what was found.
 pub(crate) fn explain_found<W: Sink>(sink: &mut W, fault: &ToolFault, found: &[u8])
-    requires { IsPlainText found.now }
     ensures { let seen : SinkSeen = sink_seen W.contents W.failures sink.old sink.new
-        in IsExplainedWithFound seen }
+        in IsExplainedWith found.now seen }
 {
     let text = text_of(fault);
     explain_with(sink, text.bytes.as_slice(), advice_on(fault), found);

@@ -3,11 +3,13 @@ ghost use Rattle.std.specs.Prelude.{◌↔◌, IfOk, IfErr, IfSome, IfNone, IsTr
 ghost use Rattle.clap.specs.Words.{found_of, rows_of};
 ghost use Rattle.crp_words.specs.Words.{Asks, IsFault, IsFollowNamedTwice, IsLoadedAlone, IsOrderedAlone, Lacks, MayNameAfter, NoFault};
 
+use crate::bays::blocks_of;
 use crate::compare_words::{COMPARED_BESIDE, compare_files_of, is_compared_beside};
 use crate::given::{is_given, is_missing, one_file, optional_number_of, same_file, text_of, wrong};
 use crate::input_words::{input_of, is_sized_twice, separator_of};
 use crate::usage::Usage;
 use clap::ArgMatches;
+use crp_follow::Part;
 use crp_jobs::{AfterFile, FollowFiles, Job};
 use std::alloc::Global;
 
@@ -17,7 +19,7 @@ static SIZED_TWICE: &str =
 
 // The refusal of what is read of a message without one.
 static ORDERED_ALONE: &str =
-    "error: the arguments '--order <ORDER>', '--code <TEXT>', '--message <REFERENCE>' and '--bay <BAY>' are about a message: name it behind the report\n\nUsage: crp follow [OPTIONS] <YARD> <REPORT> [MOVINS]\n\nFor more information, try '--help'.\n";
+    "error: the arguments '--order <ORDER>', '--code <TEXT>' and '--message <REFERENCE>' are about a message: name it behind the report\n\nUsage: crp follow [OPTIONS] <YARD> <REPORT> [MOVINS]\n\nFor more information, try '--help'.\n";
 
 // The refusal of a count of the ship's containers without the yard after, or without a message.
 static LOADED_ALONE: &str =
@@ -28,10 +30,7 @@ fn is_ordered_alone(matches: &ArgMatches<'_>) -> bool
     ensures { IsTrue result ↔ IsOrderedAlone (rows_of (found_of matches.now)) }
 {
     is_missing(matches, "movins")
-        && (is_given(matches, "order")
-            || is_given(matches, "code")
-            || is_given(matches, "message")
-            || is_given(matches, "bay"))
+        && (is_given(matches, "order") || is_given(matches, "code") || is_given(matches, "message"))
 }
 
 // Whether the containers that the ship has are counted, and the yard after is not wanted, or there is no message.
@@ -99,15 +98,17 @@ pub(crate) fn follow_of<'a>(alloc: Global, matches: &ArgMatches<'a>) -> Result<J
     if is_compared_beside(matches) {
         return Err(wrong(alloc, COMPARED_BESIDE));
     }
-    let settings = input_of(alloc, matches)?;
+    let input = input_of(alloc, matches)?;
     let yard = text_of(alloc, matches, "yard")?;
     let report = text_of(alloc, matches, "report")?;
     let separator = separator_of(alloc, matches)?;
+    let (settings, bays) = input.for_all();
     if let Some(second) = matches.get_str("compare") {
         let files = compare_files_of(matches, yard, report, second, separator);
         return Ok(Job::Compare { files, settings });
     }
     let after = after_of(alloc, matches)?;
+    let blocks = blocks_of(alloc, matches)?;
     let files = FollowFiles {
         yard,
         sizes: matches.get_str("sizes"),
@@ -117,6 +118,7 @@ pub(crate) fn follow_of<'a>(alloc: Global, matches: &ArgMatches<'a>) -> Result<J
         movins: matches.get_str("movins"),
         page: matches.get_str("page"),
         after,
+        part: Part::new(bays, blocks),
         separator,
     };
     Ok(Job::Follow { files, settings })

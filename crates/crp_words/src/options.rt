@@ -1,7 +1,7 @@
 //! The options of the command line.
 ghost use Rattle.std.specs.Prelude.{◌≡◌, IfOk};
 ghost use Rattle.clap.specs.Words.{Shape};
-ghost use Rattle.crp_words.specs.Commands.{IsArg, IsCommand, beam_rule, budget_rule, chains_rule, deepen_rule, first_rule, flag_rule, json_rule, number_rule, optional_number_rule, optional_rule, progress_rule, quiet_rule, repeated_rule, seconds_rule, split_rule, stop_rule, strong_rule, text_rule, thin_rule, total_seconds_rule, with_after, with_bays, with_compare, with_json, with_orders, with_outputs, with_page, with_partial, with_search, with_searches, with_size, with_summary, with_ways, workers_rule};
+ghost use Rattle.crp_words.specs.Commands.{IsArg, IsCommand, beam_rule, budget_rule, chains_rule, deepen_rule, first_rule, flag_rule, json_rule, number_rule, optional_number_rule, optional_rule, progress_rule, quiet_rule, repeated_rule, seconds_rule, split_rule, stop_rule, strong_rule, text_rule, thin_rule, total_seconds_rule, with_after, with_bays, with_blocks, with_compare, with_json, with_orders, with_outputs, with_page, with_partial, with_search, with_searches, with_size, with_summary, with_ways, workers_rule};
 
 use clap::{Arg, ArgAction, Command, value_parser};
 use std::alloc::{AllocError, Global};
@@ -307,6 +307,21 @@ pub(crate) fn with_bays<'a>(alloc: Global, command: Command<'a>) -> Result<Comma
         "bay",
         "BAY",
         "Only this bay, as 'A 1'; may be given several times",
+    ))
+}
+
+// A command with the blocks whose bays are wanted.
+pub(crate) fn with_blocks<'a>(
+    alloc: Global,
+    command: Command<'a>,
+) -> Result<Command<'a>, AllocError>
+    ensures { IfOk result (λ new. (shape : Shape) → IsCommand shape command.entry → IsCommand (with_blocks shape) new) }
+{
+    command.arg(repeated(
+        alloc,
+        "block",
+        "BLOCK",
+        "Only the bays of this block; may be given several times",
     ))
 }
 

@@ -35,7 +35,7 @@ returns c =
       report = listed c.args.report.now;
       texts = texts;
     } in
-    let chosen : FollowChosen = record { input = c.args.asked.0.now; loaded = c.args.asked.1; partial = false; summary = false; separator = 44 } in
+    let chosen : FollowChosen = record { input = c.args.asked.0.now; part = c.args.asked.1.now; loaded = c.args.asked.2; partial = false; summary = false; separator = 44 } in
     on_ok c.follow.result _ _ _ c.follow.ensures.ended (λ ended done.
     followed_whole chosen seen refl refl refl c.args.list.now c.args.message.now c.args.report.now c.follow.new.files.page.bytes.items c.follow.new.files.list.bytes.items
     c.follow.new.out.bytes.items (record {

@@ -15,3 +15,9 @@ pub returns-in-Check-clause-noted : goal.returns-in-Check-clause-noted
 returns-in-Check-clause-noted g c =
     let lines : SinkSeen = sink_seen g.W.Sink.contents g.W.Sink.failures c.args.writer.now c.check.new.writer in
     rw c.in-Check.is (noted_check c.in-Check.any_size c.in-Check.workers c.in-Check.json lines _ c.check.result c.check.ensures.noted)
+
+pub returns-in-Rewrite-clause-done : goal.returns-in-Rewrite-clause-done
+returns-in-Rewrite-clause-done g c = rw c.in-Rewrite.is c.rewrite.ensures.done
+
+pub returns-in-Rewrite-clause-noted : goal.returns-in-Rewrite-clause-noted
+returns-in-Rewrite-clause-noted g c = rw c.in-Rewrite.is c.rewrite.ensures.noted

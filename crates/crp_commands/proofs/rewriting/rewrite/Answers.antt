@@ -7,8 +7,8 @@ use Rattle.crp_commands.proofs.Replayed.{keeps_same}
 use Rattle.crp_commands.proofs.NotRewritten.{not_rewritten, unread_report}
 use Rattle.crp_commands.proofs.rewriting.rewrite.Goals as goal
 
-pub returns-in_err-anew : goal.returns-in_err-anew
-returns-in_err-anew g c =
+pub returns-in_err-anew-clause-done : goal.returns-in_err-anew-clause-done
+returns-in_err-anew-clause-done g c =
     let p = err_from_is_err_and c.from_residual-in_err-anew.result c.from_residual-in_err-anew.ensures.1 in
     let f = c.in_err-anew.field-0.0 in
     let text = c.in_ok-text.text.items in
@@ -23,8 +23,8 @@ returns-in_err-anew g c =
     } in
     rw (p.1, p.2) (not_rewritten seen text f (keeps_same _) c.in_ok-text.ensures.read (subst (λ (l : List ℕ). (f ≡ followed.Memory) ⊎ IsEditedFault l f) c.deref.ensures.value c.in_err-anew.ensures.refused), search rules)
 
-pub returns-in_err-text : goal.returns-in_err-text
-returns-in_err-text g c =
+pub returns-in_err-text-clause-done : goal.returns-in_err-text-clause-done
+returns-in_err-text-clause-done g c =
     let p = err_from_is_err_and c.from_residual.result c.from_residual.ensures.1 in
     let seen : CallSeen = record {
       given = g.R.Source.remaining c.args.reader.now;

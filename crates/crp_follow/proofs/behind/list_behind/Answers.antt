@@ -5,7 +5,6 @@ use Rattle.crp_yard.specs.Text.{records_of_rows, text_of_records}
 use Rattle.crp_follow.specs.declared.followed.FollowedBay.{FollowedBay}
 use Rattle.crp_follow.specs.Crane.{Stack}
 use Rattle.crp_follow.specs.Stated.{moves_of}
-use Rattle.crp_follow.specs.Followed.{IsFollowed}
 use Rattle.crp_follow.specs.Behind.{first_moves, made_in}
 use Rattle.crp_follow.specs.Views.{bay_followed}
 use Rattle.crp_follow.proofs.Named.{bay_name, names_once}
@@ -14,15 +13,14 @@ use Rattle.crp_follow.proofs.behind.list_behind.Goals as goal
 
 pub names_of-requires : goal.names_of-requires
 names_of-requires c =
-    let followed : IsFollowed c.args.yard.now c.requires.0 c.args.followed.now.numbers (map bay_followed c.args.followed.now.bays.items) = c.requires.1 in
-    subst (λ l. IsDistinct same_bay (map bay_name l)) (sym c.deref.ensures.value) (names_once c.args.yard.now followed.stated c.args.followed.now.bays.items followed.followed)
+    subst (λ l. IsDistinct same_bay (map bay_name l)) (sym c.deref.ensures.value) (names_once c.args.yard.now c.requires.0 c.args.followed.now.bays.items c.requires.1)
 
 pub rows_behind-requires-clause-can : goal.rows_behind-requires-clause-can
 rows_behind-requires-clause-can c =
     let bays = map bay_followed c.args.followed.now.bays.items in
     let made : moves_of c.made_in-moves.result.now ≡ made_in (first_moves c.args.counts.now bays) c.name-name.result.now =
     c.made_in-moves.ensures ∙ ap (λ (l : List FollowedBay). made_in (first_moves c.args.counts.now (map bay_followed l)) c.name-name.result.now) c.deref-in-loop-i.ensures.value in
-    can_be_made_at c.args.yard.now c.requires.0 c.args.followed.now.numbers c.args.counts.now bays c.loop-i.i c.name-name.result.now (moves_of c.made_in-moves.result.now) c.count-i-end.ensures.yard c.requires.1 c.name-name.ensures made
+    can_be_made_at c.args.yard.now c.requires.0 c.args.counts.now bays c.loop-i.i c.name-name.result.now (moves_of c.made_in-moves.result.now) c.count-i-end.ensures.yard c.requires.1 c.name-name.ensures made
 
 pub push_rows-requires-clause-rows : goal.push_rows-requires-clause-rows
 push_rows-requires-clause-rows c =

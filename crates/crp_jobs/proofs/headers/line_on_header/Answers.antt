@@ -15,9 +15,9 @@ returns-in-None-clause-said c =
     let second = pushed_more (codes "the file begins with ") c.first_line-header.result.now _ _ first c.push_plain-in-None-2.ensures.shown in
     let third = pushed_more (codes "the file begins with " ++ c.first_line-header.result.now) c.as_bytes-in-None.result.now _ _ second c.push_plain-in-None-3.ensures.shown in
     let header = c.first_line-header.ensures in
-    let tail : c.as_bytes-in-None.result.now ≡ wrong_with c.args.kind (first_line front) = c.as_bytes-in-None.ensures.value ∙ c.wrong_with.ensures ∙ ap (wrong_with c.args.kind) header in
+    let tail : c.as_bytes-in-None.result.now ≡ wrong_with c.args.kind c.args.separator (first_line front) = c.as_bytes-in-None.ensures.value ∙ c.wrong_with.ensures ∙ ap (wrong_with c.args.kind c.args.separator) header in
     let none = c.words_on_list.ensures in
     third ∙ ap shown (append_assoc (codes "the file begins with ") c.first_line-header.result.now c.as_bytes-in-None.result.now)
     ∙ ap (λ (l : List ℕ). shown (codes "the file begins with " ++ (l ++ c.as_bytes-in-None.result.now))) header
     ∙ ap (λ (l : List ℕ). shown (codes "the file begins with " ++ (first_line front ++ l))) tail
-    ∙ ap (λ (o : Option (List ℕ)). shown (unwrap_or o (header_text c.args.kind front))) c.in-None.ensures
+    ∙ ap (λ (o : Option (List ℕ)). shown (unwrap_or o (header_text c.args.kind c.args.separator front))) c.in-None.ensures

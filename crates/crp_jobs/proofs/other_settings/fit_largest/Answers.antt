@@ -1,5 +1,6 @@
 use Rattle.std.proofs.Common.{subst}
 use Rattle.crp_sizes.specs.Sizes.{YardSizes}
+use Rattle.crp_separated.specs.Inputs.{comma_list}
 use Rattle.crp_yard.specs.Reading.{IsYardListOf}
 use Rattle.crp_order.specs.declared.sequences.Mode.{Mode}
 use Rattle.crp_jobs.specs.OtherSettings.{AreFitting}
@@ -14,6 +15,6 @@ returns g c =
     let yard = c.in_ok-yard.yard in
     some_by c.fit_yard.result _ _ c.fit_yard.ensures (λ fit is. (
       yard,
-      subst (λ (s : YardSizes). IsOfFront (known.given names.yard.now) (λ text. IsYardListOf s text yard)) c.largest.ensures c.in_ok-yard.ensures.listed,
+      subst (λ (s : YardSizes). IsOfFront (known.given names.yard.now) (λ text. IsYardListOf s (comma_list names.separator text) yard)) c.largest.ensures c.in_ok-yard.ensures.listed,
       subst (λ (m : Mode). AreFitting known names c.args.settings.now yard m fit) c.mode.ensures is,
     ))

@@ -21,6 +21,10 @@ pub returns-clause-bounded : goal.returns-clause-bounded
 unfolding digits chars is_utf8 encode_with json_on_literals
 returns-clause-bounded c = refl
 
+pub returns-clause-outside : goal.returns-clause-outside
+unfolding digits chars is_utf8 encode_with json_on_literals
+returns-clause-outside c = refl
+
 pub returns-clause-last : goal.returns-clause-last
 unfolding digits chars is_utf8 encode_with json_on_literals
 returns-clause-last c = refl

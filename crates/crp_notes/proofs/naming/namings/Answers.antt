@@ -25,7 +25,7 @@ loop-i-preserved c =
     record {
       few = omega (arith, h.few, c.after-standing.ensures.few);
       stands = c.after-standing.ensures.stands segments (c.loop-i.i + 1) h.stands c.said_by-says.ensures;
-      named = named-more segments loading (c.loop-i.i + 1) c.loop-i.standing c.named.result (map named c.loop-i.namings.items) (map named c.push.new.namings.items) h.stands (c.named.ensures segments loading (c.loop-i.i + 1) h.stands c.said_by-says.ensures) h.named c.in_ok-push.ensures;
+      named = named-more segments loading (c.loop-i.i + 1) c.named.result (map named c.loop-i.namings.items) (map named c.push.new.namings.items) (c.named.ensures segments loading (c.loop-i.i + 1) h.stands c.said_by-says.ensures) h.named c.in_ok-push.ensures;
     }
 
 pub returns : goal.returns

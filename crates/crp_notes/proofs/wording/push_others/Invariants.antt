@@ -1,8 +1,7 @@
--- The names so far stand behind the text.
+-- The words so far stand behind the text.
 use Rattle.std.proofs.Common.{◌≡◌, ◌++◌, map, take}
 use Rattle.std.specs.Prelude.{codes, flat_map}
-use Rattle.crp_notes.specs.Wording.{quoted}
 use Rattle.crp_notes.proofs.wording.push_others.Given as goal
 
-abbrev pub invariant-loop-name : goal.invariant-loop-name
-invariant-loop-name l = l.text.items ≡ l.initial.text.items ++ flat_map (λ name. codes ", " ++ quoted name) (map (λ name. name.now) (take l.name-index l.names))
+abbrev pub invariant-loop-other : goal.invariant-loop-other
+invariant-loop-other l = l.text.items ≡ l.initial.text.items ++ flat_map (λ other. codes ", " ++ other) (map (λ other. other.items) (take l.other-index l.words))

@@ -16,20 +16,20 @@ use Rattle.crp_page.proofs.Writes.{stops_before, stops_behind, writes_as, stops_
 use Rattle.crp_page.proofs.writing.write_parts.Goals as goal
 
 pub page_front-requires : goal.page_front-requires
-page_front-requires g c = few_at_end c.what_columns_say.ensures.left c.args.yard.now c.requires.followed.0 _ _ c.sizes-sizes.ensures.yard c.requires.followed.1
+page_front-requires g c = few_at_end c.what_columns_say.ensures.left c.args.yard.now c.requires.followed.0 _ c.sizes-sizes.ensures.yard c.requires.followed.1
 
 pub turns_part-requires : goal.turns_part-requires
 turns_part-requires g c = subst (λ l. AllByRecursion StandFew (map bay_followed l)) (sym c.deref-bays.ensures.value)
-    (few_at_start c.args.yard.now c.requires.followed.0 _ _ c.sizes-sizes.ensures.yard c.requires.followed.1)
+    (few_at_start c.args.yard.now c.requires.followed.0 _ c.sizes-sizes.ensures.yard c.requires.followed.1)
 
 pub write_sections-requires-clause-few : goal.write_sections-requires-clause-few
 write_sections-requires-clause-few g c = subst (λ l. AllByRecursion StandFew (map bay_followed l)) (sym c.deref-bays.ensures.value)
-    (few_at_start c.args.yard.now c.requires.followed.0 _ _ c.sizes-sizes.ensures.yard c.requires.followed.1)
+    (few_at_start c.args.yard.now c.requires.followed.0 _ c.sizes-sizes.ensures.yard c.requires.followed.1)
 
 pub write_sections-requires-clause-left : goal.write_sections-requires-clause-left
 write_sections-requires-clause-left g c =
     subst (λ l. AllByRecursion LeaveFew (map bay_followed l)) (sym c.deref-bays.ensures.value)
-    (few_at_end c.what_columns_say.ensures.left c.args.yard.now c.requires.followed.0 _ _ c.sizes-sizes.ensures.yard c.requires.followed.1)
+    (few_at_end c.what_columns_say.ensures.left c.args.yard.now c.requires.followed.0 _ c.sizes-sizes.ensures.yard c.requires.followed.1)
 
 pub returns-in_err-write_made : goal.returns-in_err-write_made
 returns-in_err-write_made g c =

@@ -6,4 +6,4 @@ invariant_of-self g c =
     let was = c.self.inside in
     let answered = c.answer_to-answer in
     told_on was.is_json g.B.Begun.held (g.S.Sink.contents was.out) (g.S.Sink.contents answered.new.out) was.failed c.count-self-inside.result answered.result
-    was.line.items answered.new.line.items was.given.items answered.new.given.items c.args.piece.now c.self.invariant answered.ensures.answer c.count-self-inside.ensures
+    was.lines.complete answered.new.lines.complete was.lines.line.items answered.new.lines.line.items c.args.piece.now c.self.invariant answered.ensures.answer c.count-self-inside.ensures

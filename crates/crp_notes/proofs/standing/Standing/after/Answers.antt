@@ -13,7 +13,7 @@ returns-in-Begins-clause-stands c segments i h said =
 pub returns-in-Code-clause-stands : goal.returns-in-Code-clause-stands
 returns-in-Code-clause-stands c segments i h said =
     let k = subst (IsSaid (segment_numbered segments i)) c.in-Code.is said in
-    after-handling segments c.args.loading.now i c.args.self h c.loads.result c.in-Code.found.now k.0 k.1 c.loads.ensures
+    after-handling segments c.args.loading.now i c.args.self h c.loads.result c.in-Code.found k.0 k.1 c.loads.ensures
 
 pub returns-after-self-clause-stands : goal.returns-after-self-clause-stands
 returns-after-self-clause-stands c segments i h said =
@@ -26,7 +26,7 @@ returns-after-self-clause-stands c segments i h said =
     rw group (after-slot segments c.args.loading.now i c.args.self h c.in-Slot.slot k.0 k.1)
 
 pub returns-in-Container-clause-stands : goal.returns-in-Container-clause-stands
-returns-in-Container-clause-stands c segments i h said = after-container segments c.args.loading.now i c.args.self h (subst (IsSaid (segment_numbered segments i)) c.in-Container.is said)
+returns-in-Container-clause-stands c segments i h said = after-container segments c.args.loading.now i c.args.self h (subst (IsSaid (segment_numbered segments i)) c.in-Container.is said).0
 
 pub returns-in-Function-clause-stands : goal.returns-in-Function-clause-stands
 returns-in-Function-clause-stands c segments i h said =

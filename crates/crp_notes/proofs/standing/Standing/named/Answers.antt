@@ -21,12 +21,12 @@ returns-else-self c segments loading i h said =
 pub returns-then-self-2 : goal.returns-then-self-2
 returns-then-self-2 c segments loading i h said =
     subst (λ b. option_map (λ (t : Bor (List ℕ)). t.now) (cond b c.args.self.now.group None) ≡ option_map (λ j. text_at segments j 2 1) (named_group segments loading i)) c.if-self-2.true
-    (container-named segments loading i c.args.self.now h (subst (IsSaid (segment_numbered segments i)) c.in-Container.is said))
+    (container-named segments loading i c.args.self.now h (subst (IsSaid (segment_numbered segments i)) c.in-Container.is said).0)
 
 pub returns-else-self-2 : goal.returns-else-self-2
 returns-else-self-2 c segments loading i h said =
     subst (λ b. option_map (λ (t : Bor (List ℕ)). t.now) (cond b c.args.self.now.group None) ≡ option_map (λ j. text_at segments j 2 1) (named_group segments loading i)) c.if-self-2.false
-    (container-named segments loading i c.args.self.now h (subst (IsSaid (segment_numbered segments i)) c.in-Container.is said))
+    (container-named segments loading i c.args.self.now h (subst (IsSaid (segment_numbered segments i)) c.in-Container.is said).0)
 
 pub returns-in-Begins : goal.returns-in-Begins
 returns-in-Begins c segments loading i h said =

@@ -5,4 +5,4 @@ use Rattle.crp_notes.proofs.standing.Standing.start.Goals as goal
 
 pub returns : goal.returns
 unfolding kind_at kind_of
-returns c segments loading = record { messages = refl; read = refl; in_force = refl; group = refl; container = refl }
+returns c segments loading = record { messages = refl; read = refl; in_force = refl; group = refl; container = refl; code = refl; orders = refl; opened = refl }
