@@ -23,3 +23,5 @@ mod Filling
 mod Splitting
 mod Listing
 mod Summing
+pub mod Listed
+pub mod Gathered

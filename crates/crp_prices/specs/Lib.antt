@@ -3,6 +3,7 @@ pub use Rattle.crp_plan.specs.Bay
 pub use Rattle.crp_bounds.specs.Bounds
 pub mod Prices
 pub mod PriceTable
+pub mod PriceLists
 pub mod Pass
 pub mod AllJobs
 pub mod Worked

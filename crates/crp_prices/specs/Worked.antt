@@ -2,6 +2,7 @@
 use Rattle.std.specs.Prelude.{ℕ, ◌==◌, if◌then◌else◌, List, [], ◌∷◌}
 use Rattle.crp_plan.specs.Bay.{Position}
 use Rattle.crp_prices.specs.declared.job.Job.{Job}
+use Rattle.crp_prices.specs.declared.list.Priced.{Priced}
 
 -- three rows of three, two and two tiers: 1 4 3 | 5 | 2, all of which leave
 abbrev pub worked : Position
@@ -17,3 +18,9 @@ worked_price c v =
 -- 4 comes up in a turn
 abbrev pub four_in : ℕ → List Job
 four_in v = record { rank = 4; turn = v } ∷ []
+
+-- the same as a list
+abbrev pub worked_list : List Priced
+worked_list =
+    record { rank = 3; turn = 1; price = 10 } ∷ record { rank = 4; turn = 1; price = 14 } ∷ record { rank = 4; turn = 2; price = 6 }
+    ∷ record { rank = 4; turn = 3; price = 3 } ∷ []

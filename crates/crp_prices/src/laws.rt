@@ -1,5 +1,5 @@
 //! Laws of the bound by prices, for the crates above.
-ghost use Rattle.std.specs.Prelude.{◌≡◌, ◌≢◌, ℕ, ◌-◌, ◌<◌, ◌≤◌, ◌+◌, ◌*◌, ◌↔◌, IsTrue, true, false, List, [], ◌∷◌, ◌++◌, length, sum, Some, slice_get};
+ghost use Rattle.std.specs.Prelude.{◌≡◌, ◌≢◌, ℕ, codes, ◌-◌, ◌<◌, ◌≤◌, ◌+◌, ◌*◌, ◌↔◌, IsTrue, true, false, List, [], ◌∷◌, ◌++◌, length, sum, Some, slice_get};
 ghost use Rattle.crp_plan.specs.Rows.{occurrences};
 ghost use Rattle.crp_plan.specs.declared.moves.Move.{Move};
 ghost use Rattle.crp_plan.specs.Bay.{Problem, IsProblem, IsPlan, IsAt, path_of, Position, IsSound, IsShifted, Legal, Completes, relocations};
@@ -9,7 +9,8 @@ ghost use Rattle.crp_prices.specs.Prices.{IsFirst, IsLater, IsJob, IsHistory, le
 ghost use Rattle.crp_prices.specs.declared.job.MarkedJob.{MarkedJob};
 ghost use Rattle.crp_prices.specs.Pass.{AreJobs, row_pass};
 ghost use Rattle.crp_prices.specs.AllJobs.{jobs_of, mosts, pass_bound};
-ghost use Rattle.crp_prices.specs.Worked.{worked, worked_price, four_in};
+ghost use Rattle.crp_prices.specs.PriceLists.{AreListed, list_text};
+ghost use Rattle.crp_prices.specs.Worked.{worked, worked_price, worked_list, four_in};
 
 /// Whatever the prices are, and a unit: a unit for each container that blocks and the prices of the first jobs are together at most a unit
 /// for each relocation of any way to the end, and what the rows earn. So the bound by prices is at most these relocations.
@@ -92,4 +93,10 @@ pub fn prices_worked()
     ensures first_row { IsHistory worked 3 (1 ∷ 4 ∷ 3 ∷ []) (four_in 2) × (earned worked_price 10 5 (1 ∷ 4 ∷ 3 ∷ []) (four_in 2) ≡ 6) }
     ensures second_row { IsHistory worked 2 (5 ∷ []) (four_in 1) × (earned worked_price 10 5 (5 ∷ []) (four_in 1) ≡ 14) }
     ensures third_row { IsHistory worked 2 (2 ∷ []) (four_in 3) × (earned worked_price 10 5 (2 ∷ []) (four_in 3) ≡ 3) }
+{}
+
+/// Its prices as a list, and how that is spelled.
+pub fn price_list_worked()
+    ensures listed { AreListed worked_list }
+    ensures text { list_text worked_list ≡ codes "3:1.10;4:1.14,2.6,3.3" }
 {}

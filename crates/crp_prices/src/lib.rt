@@ -6,6 +6,7 @@ mod bound;
 mod columns;
 mod job;
 mod laws;
+mod list;
 mod mosts;
 mod pass;
 mod prices;
@@ -16,8 +17,9 @@ pub use all_jobs::jobs_of;
 pub use bound::{firsts_of, price_bound_of};
 pub use job::{Job, MarkedJob};
 pub use laws::{
-    job_words_mean, pass_is_most, prices_bound, prices_fall_slowly, prices_grow, prices_pass,
-    prices_worked, rows_keep_most,
+    job_words_mean, pass_is_most, price_list_worked, prices_bound, prices_fall_slowly, prices_grow,
+    prices_pass, prices_worked, rows_keep_most,
 };
+pub use list::{PriceList, Priced};
 pub use mosts::mosts_of;
 pub use prices::Prices;

@@ -42,6 +42,13 @@ impl Prices {
         })
     }
 
+    /// Makes all prices 0.
+    pub fn clear(&mut self)
+        ensures { (rank turn : ℕ) → price_in self.new rank turn ≡ 0 }
+    {
+        self.table.fill(0);
+    }
+
     /// Gives a job this price.
     pub fn set(&mut self, rank: u8, turn: u8, price: u16)
         requires rank { rank ≤ 96 }
